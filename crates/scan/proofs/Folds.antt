@@ -1,16 +1,14 @@
 -- Folds over a part that comes in chunks.
-use Prim.Native.Nat.{ℕ, _+_, _-_, _%_, _≤_, _<_}
+use Prim.Native.Nat.{ℕ, _+_, _-_, _≤_, _<_}
 use mathlib.Core.Path.{_≡_, refl}
 use mathlib.Core.List.{List, [], _∷_, _++_}
 use native.Mathlib.Omega.{arith}
 use borrow.Author.Needs.{needs}
 use borrow.Rule.Slice.PartMut.{postOf}
 use lib.ListN.{length, take, drop}
-use Rattle.std.specs.shelf.Lists.{folded, sum}
+use Rattle.std.specs.shelf.Lists.{folded}
 use Rattle.std.proofs.shelf.Lists.{places, same-lists, drop-drop}
-use Rattle.std.proofs.shelf.Sums.{sumBy-cons}
 use Rattle.source.specs.Bytes.{part}
-use Rattle.scan.specs.declared.Sum.{Sum}
 
 folded-append : {X : Type 0} (f : X → ℕ → X) (a : X) (xs ys : List ℕ) → folded f a (xs ++ ys) ≡ folded f (folded f a xs) ys
 folded-append f a [] ys = refl
@@ -32,9 +30,3 @@ folded-step f xs ys place done n a b d front buffer e s h l p q =
     let v = folded-append f a (take done (drop place ys)) (take n (drop done (drop place ys))) in
     let w = take-add done n (drop place ys) in
     (search (needs, places), cc)
-
-pub folded-sum : (s : Sum) (xs : List ℕ) → s .total < 65536
-    → folded (λ (t : Sum) b. record { total = (t .total + b) % 65536 }) s xs .total ≡ (s .total + sum xs) % 65536
-folded-sum s [] h = omega arith
-folded-sum s (x ∷ xs) h =
-    let e = folded-sum (record { total = (s .total + x) % 65536 }) xs (omega arith) in omega (arith, e, sumBy-cons (λ x. x) x xs)

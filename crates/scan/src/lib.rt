@@ -1,72 +1,71 @@
-// Reading a part of a source in chunks: sums, and whatever else goes byte by byte.
+// Reading a part of a source in chunks, byte by byte: sums, texts, numbers.
 ghost use mathlib.Core.Path.{_≡_};
-ghost use Prim.Native.Nat.{ℕ, _+_, _%_};
+ghost use Prim.Native.Nat.{ℕ};
 ghost use denote.Ref.{now};
 ghost use Rattle.std.specs.shelf.Lists.{folded};
 ghost use Rattle.source.specs.Bytes.{val};
 ghost use Rattle.source.specs.Content.{meaning};
-ghost use Rattle.scan.specs.Scans.{Scanned, asked, checksum};
+ghost use Rattle.scan.specs.Scans.{asked};
 use source::Reason;
 use source::Refusal;
 use source::Source;
 
+mod sums;
+mod texts;
+
+pub use sums::checksum;
+pub use texts::is_text8;
+pub use texts::is_text16;
+
 const CHUNK: usize = 256;
 
-// What takes bytes one after another, as a running sum does.
-pub trait Consumer {
+// What goes from state to state by one byte after another.
+pub trait Automaton: Copy {
     ghost step: { Self → ℕ → Self };
 
-    fn take_in(&mut self, bytes: &[u8])
-        ensures { λ _. ⌜ now (self .exit) ≡ folded step (now (self .entry)) (now (bytes .entry)) ⌝ };
+    fn after(self, byte: u8) -> Self
+        ensures { λ r. ⌜ r ≡ step self byte ⌝ };
 }
 
-// Hands the `size` bytes from `place` on to `consumer`, in their order, or refuses and hands it none.
-pub fn scan<S: Source, C: Consumer>(source: &mut S, place: usize, size: usize, consumer: &mut C) -> Result<(), Refusal>
+// The state after all of `bytes`.
+fn after_all<A: Automaton>(start: A, bytes: &[u8]) -> A
+    ensures { λ r. ⌜ r ≡ folded (A·Automaton .step) start (now (bytes .entry)) ⌝ }
+{
+    let mut state = start;
+    for byte in bytes {
+        state = state.after(*byte);
+    }
+    state
+}
+
+// The state after the `size` bytes from `place` on.
+pub fn scan<S: Source, A: Automaton>(
+    source: &mut S,
+    place: usize,
+    size: usize,
+    start: A,
+) -> Result<A, Refusal>
     ensures same { λ _. ⌜ S·Source .content (now (source .exit)) ≡ S·Source .content (now (source .entry)) ⌝ }
-    ensures value { λ r. ⌜ Scanned (C·Consumer .step) (meaning (S·Source .content (now (source .entry)))) place size (now (consumer .entry)) (now (consumer .exit)) r ⌝ }
+    ensures value { λ r. ⌜ r ≡ asked (folded (A·Automaton .step) start) (meaning (S·Source .content (now (source .entry)))) place size ⌝ }
 {
     let total = source.len();
     if place > total || size > total - place {
-        return Err(Refusal { reason: Reason::SourceEnd, place: 0 });
+        return Err(Refusal {
+            reason: Reason::SourceEnd,
+            place: 0,
+        });
     }
     let mut buffer = [0u8; CHUNK];
+    let mut state = start;
     let mut done: usize = 0;
     while done < size {
         let n = (size - done).min(CHUNK);
         let part = &mut buffer[0..n];
         source.fetch(place + done, part)?;
-        consumer.take_in(part);
+        state = after_all(state, part);
         done += n;
     }
-    Ok(())
-}
-
-// A running sum that wraps at sixteen bits.
-#[derive(Drop)]
-struct Sum {
-    total: u16,
-}
-
-impl Consumer for Sum as SumConsumer {
-    ghost step = { λ s b. record { total = (s .total + b) % 65536 } };
-
-    fn take_in(&mut self, bytes: &[u8]) {
-        let mut total = self.total;
-        for byte in bytes {
-            total = total.wrapping_add(u16::from(*byte));
-        }
-        self.total = total;
-    }
-}
-
-// The sum of the `size` bytes from `place` on, modulo 65,536.
-pub fn checksum<S: Source>(source: &mut S, place: usize, size: usize) -> Result<u16, Refusal>
-    ensures same { λ _. ⌜ S·Source .content (now (source .exit)) ≡ S·Source .content (now (source .entry)) ⌝ }
-    ensures value { λ r. ⌜ r ≡ asked checksum (meaning (S·Source .content (now (source .entry)))) place size ⌝ }
-{
-    let mut sum = Sum { total: 0 };
-    scan(source, place, size, &mut sum)?;
-    Ok(sum.total)
+    Ok(state)
 }
 
 // The two bytes at `place` as a number, the lower first.

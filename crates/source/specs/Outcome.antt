@@ -10,7 +10,6 @@ use Rattle.source.specs.declared.refusals.Refusal.{Refusal}
 
 infixl 20 _>>=_
 infixl 20 _>>_
-
 abbrev pub Outcome : Type 0 → Type 0
 Outcome A = Result A Refusal
 

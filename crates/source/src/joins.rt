@@ -24,16 +24,22 @@ impl<A: Source, B: Source> Join<A, B> {
     pub fn new(first: A, second: B) -> Result<Join<A, B>, Returned<(A, B)>>
         ensures { λ r. ⌜ Cases r
             (λ j. (j .first ≡ first) × (j .second ≡ second)
-                × (meaning (pair (A·Source .content first) (B·Source .content second)) ≡ meaning (A·Source .content first) ++ meaning (B·Source .content second)))
+            × (meaning (pair (A·Source .content first) (B·Source .content second)) ≡ meaning (A·Source .content first) ++ meaning (B·Source .content second)))
             (λ e. (source-limit < length (meaning (A·Source .content first) ++ meaning (B·Source .content second)))
-                × (e .refusal ≡ record { reason = SourceTooLong; place = 0 })
-                × (e .value .0 ≡ first) × (e .value .1 ≡ second)) ⌝ }
+            × (e .refusal ≡ record { reason = SourceTooLong; place = 0 })
+            × (e .value .0 ≡ first) × (e .value .1 ≡ second)) ⌝ }
     {
         let a = first.len();
         let b = second.len();
         if a + b > SOURCE_LIMIT {
-            let refusal = Refusal { reason: Reason::SourceTooLong, place: 0 };
-            return Err(Returned { refusal, value: (first, second) });
+            let refusal = Refusal {
+                reason: Reason::SourceTooLong,
+                place: 0,
+            };
+            return Err(Returned {
+                refusal,
+                value: (first, second),
+            });
         }
         Ok(Join { first, second })
     }
@@ -52,7 +58,11 @@ pub impl<A: Source, B: Source> Source for Join<A, B> as JoinSource {
     fn len(&self) -> usize {
         let a = self.first.len();
         let b = self.second.len();
-        if a + b < SOURCE_LIMIT { a + b } else { SOURCE_LIMIT }
+        if a + b < SOURCE_LIMIT {
+            a + b
+        } else {
+            SOURCE_LIMIT
+        }
     }
 
     fn fetch(&mut self, place: usize, buffer: &mut [u8]) -> Result<(), Refusal> {
@@ -60,7 +70,10 @@ pub impl<A: Source, B: Source> Source for Join<A, B> as JoinSource {
         let a = self.first.len();
         let n = buffer.len();
         if place > total || n > total - place {
-            return Err(Refusal { reason: Reason::SourceEnd, place: 0 });
+            return Err(Refusal {
+                reason: Reason::SourceEnd,
+                place: 0,
+            });
         }
         if place >= a {
             return self.second.fetch(place - a, buffer);

@@ -34,7 +34,10 @@ impl<'a> Held<'a> {
             (λ e. (source-limit < length (now (bytes .entry))) × (e ≡ record { reason = SourceTooLong; place = 0 })) ⌝ }
     {
         if bytes.len() > SOURCE_LIMIT {
-            return Err(Refusal { reason: Reason::SourceTooLong, place: 0 });
+            return Err(Refusal {
+                reason: Reason::SourceTooLong,
+                place: 0,
+            });
         }
         Ok(Held { bytes })
     }
@@ -59,7 +62,10 @@ pub impl Source for Held<'_> as HeldSource {
         let total = self.len();
         let n = buffer.len();
         if place > total || n > total - place {
-            return Err(Refusal { reason: Reason::SourceEnd, place: 0 });
+            return Err(Refusal {
+                reason: Reason::SourceEnd,
+                place: 0,
+            });
         }
         buffer.copy_from_slice(&self.bytes[place..place + n]);
         Ok(())

@@ -23,15 +23,21 @@ impl<S: Source> Window<S> {
     pub fn new(inner: S, start: usize, size: usize) -> Result<Window<S>, Returned<S>>
         ensures { λ r. ⌜ Cases r
             (λ w. (start + size ≤ length (meaning (S·Source .content inner)))
-                × (w .inner ≡ inner) × (w .start ≡ start) × (w .size ≡ size))
+            × (w .inner ≡ inner) × (w .start ≡ start) × (w .size ≡ size))
             (λ e. (length (meaning (S·Source .content inner)) < start + size)
-                × (e .refusal ≡ record { reason = SourceEnd; place = 0 })
-                × (e .value ≡ inner)) ⌝ }
+            × (e .refusal ≡ record { reason = SourceEnd; place = 0 })
+            × (e .value ≡ inner)) ⌝ }
     {
         let total = inner.len();
         if start > total || size > total - start {
-            let refusal = Refusal { reason: Reason::SourceEnd, place: 0 };
-            return Err(Returned { refusal, value: inner });
+            let refusal = Refusal {
+                reason: Reason::SourceEnd,
+                place: 0,
+            };
+            return Err(Returned {
+                refusal,
+                value: inner,
+            });
         }
         Ok(Window { inner, start, size })
     }
@@ -39,7 +45,11 @@ impl<S: Source> Window<S> {
     pub fn end(self) -> S
         ensures { λ r. ⌜ r ≡ self .inner ⌝ }
     {
-        let Window { inner, start: _, size: _ } = self;
+        let Window {
+            inner,
+            start: _,
+            size: _,
+        } = self;
         inner
     }
 }
@@ -57,7 +67,10 @@ pub impl<S: Source> Source for Window<S> as WindowSource {
         let total = self.len();
         let n = buffer.len();
         if place > total || n > total - place {
-            return Err(Refusal { reason: Reason::SourceEnd, place: 0 });
+            return Err(Refusal {
+                reason: Reason::SourceEnd,
+                place: 0,
+            });
         }
         if self.start >= whole {
             return Ok(());

@@ -10,7 +10,7 @@ abbrev pub Inv-loop-done : given.InvT-loop-done
 Inv-loop-done g l =
     (l .done ≤ l .size) × (length (l .buffer) ≡ 256)
     × (g .S·Source .content (l .source) ≡ g .S·Source .content (l .entry .source))
-    × (l .consumer ≡ folded (g .C·Consumer .step) (l .entry .consumer) (part (meaning (g .S·Source .content (l .entry .source))) (l .place) (l .done)))
+    × (l .state ≡ folded (g .A·Automaton .step) (l .entry .state) (part (meaning (g .S·Source .content (l .entry .source))) (l .place) (l .done)))
 
 abbrev pub μ-loop-done : given.MeasureT-loop-done
 μ-loop-done g l = l .size - l .done

@@ -20,6 +20,7 @@ returns g c =
     let l : length (c .fetch-2 .last .buffer) ≡ c .len-a .result - c .args .place = search (needs, places) in
     let s = second-part _ _ (c .fetch-2 .last .buffer) k l in
     record {
-        same = search needs;
-        value = fetched-both _ _ _ _ (length (take (c .len-a .result - c .args .place - 0) (c .args .buffer .now))) _ _ _ _ _ _ (c .len-a .ensures .value) f (c .fetch-3 .ensures .value)
-            (omega arith) (omega arith) (omega arith) (simp length-take (omega arith)) s (both-parts _ _ _ _ k l (search needs)) }
+      same = search needs;
+      value = fetched-both _ _ _ _ (length (take (c .len-a .result - c .args .place - 0) (c .args .buffer .now))) _ _ _ _ _ _ (c .len-a .ensures .value) f (c .fetch-3 .ensures .value)
+          (omega arith) (omega arith) (omega arith) (simp length-take (omega arith)) s (both-parts _ _ _ _ k l (search needs));
+    }
