@@ -1,13 +1,14 @@
 -- The header, and one frame up to its checksum, in the order of the checks.
 use mathlib.Core.List.{List, [], _∷_}
 use mathlib.Core.Bool.{Bool, true, false, cond, _&&_, _||_}
-use Prim.Native.Nat.{ℕ, _+_}
+use Prim.Native.Nat.{ℕ, _+_, _<_, _≤_}
 use lib.Dec.{eqb, leb, ltb}
 use lib.ListN.{length, take, getD}
 use Rattle.std.specs.declared.option.Option.{Option}
 use Rattle.std.specs.declared.option.Option.the-variants.{Some, None}
 use Rattle.std.specs.declared.result.Result.the-variants.{Ok, Err}
 use Rattle.source.specs.Bytes.{part, val, same-bytes}
+use Rattle.source.specs.Content.{source-limit}
 use Rattle.source.specs.Outcome.{Outcome, _>>=_, _>>_, need, given, over}
 use Rattle.source.specs.declared.refusals.Reason.the-variants.{StreamEnd, Signature, Level, UnknownId, LengthSign, Checksum}
 use Rattle.scan.specs.Scans.{checksum}
@@ -83,3 +84,7 @@ frame-at xs p s = do
 -- The frame at p, or none where the stream ends there and may.
 unfoldable pub next-frame : List ℕ → ℕ → Stage → Outcome (Option Frame)
 next-frame xs p s = cond (eqb p (length xs) && may-end s) (Ok None) (over Some (frame-at xs p s))
+
+-- A frame ends behind its place, and within what a source can mean.
+abbrev pub Onward : ℕ → Frame → Type 0
+Onward p f = (p < f .next) × (f .next ≤ source-limit)

@@ -2,9 +2,10 @@
 ghost use mathlib.Core.Path.{_≡_};
 ghost use Prim.Native.Nat.{_+_, _≤_};
 ghost use denote.Ref.{now};
+ghost use Rattle.std.specs.Options.{Cases as BySome};
 ghost use Rattle.std.specs.Vec.{made};
 ghost use Rattle.source.specs.Content.{meaning, source-limit};
-ghost use Rattle.frame.specs.Frames.{header, head-at, head-judged, sum-judged, frame-at, next-frame};
+ghost use Rattle.frame.specs.Frames.{header, head-at, head-judged, sum-judged, frame-at, next-frame, Onward};
 use attribute::Attribute;
 use attribute::Rule;
 use attribute::attribute_of;
@@ -156,6 +157,7 @@ fn sum_judged<S: Source>(
 pub fn frame_at<S: Source>(source: &mut S, place: usize, stage: Stage) -> Result<Frame, Refusal>
     ensures same { λ _. ⌜ S·Source .content (now (source .exit)) ≡ S·Source .content (now (source .entry)) ⌝ }
     ensures reads { λ r. ⌜ r ≡ frame-at (meaning (S·Source .content (now (source .entry)))) place stage ⌝ }
+    ensures within { λ r. ⌜ made r (λ f. Onward place f) ⌝ }
 {
     let head = head_at(source, place)?;
     let Judged { attribute, stage } = head_judged(head, place, stage)?;
@@ -180,6 +182,7 @@ pub fn next_frame<S: Source>(
 ) -> Result<Option<Frame>, Refusal>
     ensures same { λ _. ⌜ S·Source .content (now (source .exit)) ≡ S·Source .content (now (source .entry)) ⌝ }
     ensures reads { λ r. ⌜ r ≡ next-frame (meaning (S·Source .content (now (source .entry)))) place stage ⌝ }
+    ensures within { λ r. ⌜ made r (λ o. BySome o (Unit {0}) (λ f. Onward place f)) ⌝ }
 {
     let total = source.len();
     let complete = stage.may_end();

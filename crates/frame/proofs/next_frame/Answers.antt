@@ -16,15 +16,15 @@ more {b} e f (inr h) q k = both-ways b h (e ∙ k)
 
 pub returns-then-place-total : need.returns-then-place-total
 returns-then-place-total g c =
-    record { same = refl; reads = frames-end _ _ _ (c .if-place-total .taken ∙ c .len-total .ensures .value) (sym (c .may-end-complete .ensures) ∙ c .if-complete .taken) }
+    record { same = refl; reads = frames-end _ _ _ (c .if-place-total .taken ∙ c .len-total .ensures .value) (sym (c .may-end-complete .ensures) ∙ c .if-complete .taken); within = tt }
 
 pub returns-in-Break-frame : need.returns-in-Break-frame
 returns-in-Break-frame g c =
     let p = err-from-errBy (c .from-residual .result) (c .from-residual .ensures .1) in
     let h = c .in-Break-frame .ensures tt in
-    rw (p .1, p .2) (record { same = h .same; reads = ap (over Some) (h .reads) ∙ frames-go-on _ _ _ (more (c .may-end-complete .ensures) (c .len-total .ensures .value) (c .else-complete .either)) })
+    rw (p .1, p .2) (record { same = h .same; reads = ap (over Some) (h .reads) ∙ frames-go-on _ _ _ (more (c .may-end-complete .ensures) (c .len-total .ensures .value) (c .else-complete .either)); within = tt })
 
 pub returns : need.returns
 returns g c =
     let h = c .in-Continue-frame .ensures tt in
-    record { same = h .same; reads = ap (over Some) (h .reads) ∙ frames-go-on _ _ _ (more (c .may-end-complete .ensures) (c .len-total .ensures .value) (c .else-complete .either)) }
+    record { same = h .same; reads = ap (over Some) (h .reads) ∙ frames-go-on _ _ _ (more (c .may-end-complete .ensures) (c .len-total .ensures .value) (c .else-complete .either)); within = h .within }
