@@ -1,0 +1,86 @@
+// Lists the frames of the stream on standard input.
+use attribute::Attribute;
+use attribute::Rule;
+use attribute::name_of;
+use frame::Frame;
+use frame::Stage;
+use frame::header;
+use frame::next_frame;
+use source::Held;
+use source::HeldSource;
+use source::RefusalDisplay;
+use source::SOURCE_LIMIT;
+use source::Source;
+use std::io;
+use std::io::BufWriter;
+use std::io::Read;
+use std::io::Write;
+
+const CHUNK: usize = 65_536;
+
+// All of standard input, or as much as shows that it is too long for a source.
+fn input(rt: &LibcRuntime) -> io::Result<Vec<u8>> {
+    let mut stdin = rt.stdin();
+    let mut bytes = Vec::new(rt.alloc());
+    let mut chunk = [0u8; CHUNK];
+    for _ in 0..u64::MAX {
+        let n = stdin.read(&mut chunk)?;
+        if n == 0 || bytes.len() > SOURCE_LIMIT {
+            break;
+        }
+        bytes.extend_from_slice(&chunk[0..n])?;
+    }
+    Ok(bytes)
+}
+
+// Some other than a class's checksum is compared with the sum of the data.
+fn compared(attribute: Attribute) -> &'static str {
+    match attribute.rule {
+        Rule::Class => "not compared",
+        _ => "compared",
+    }
+}
+
+fn print_frame<W: Write>(out: &mut W, frame: Frame) -> io::Result<()> {
+    let Attribute { id, level, rule: _ } = frame.attribute;
+    let name = name_of(id);
+    let place = frame.place;
+    let size = frame.size;
+    let sum = frame.checksum;
+    let how = compared(frame.attribute);
+    writeln!(
+        out,
+        "{place} {level} 0x{id:08X} {name} {size} 0x{sum:04X} {how}"
+    )
+}
+
+fn print_frames<S: Source, W: Write>(source: &mut S, out: &mut W) -> io::Result<()> {
+    if let Err(refusal) = header(source) {
+        return writeln!(out, "{refusal}");
+    }
+    let mut place = 6;
+    let mut stage = Stage::Version;
+    let mut count: usize = 0;
+    loop {
+        match next_frame(source, place, stage) {
+            Err(refusal) => return writeln!(out, "{refusal}"),
+            Ok(None) => return writeln!(out, "{count} frames"),
+            Ok(Some(frame)) => {
+                print_frame(out, frame)?;
+                place = frame.next;
+                stage = frame.stage;
+                count += 1;
+            }
+        }
+    }
+}
+
+fn main(rt: LibcRuntime) -> io::Result<()> {
+    let bytes = input(&rt)?;
+    let mut out = BufWriter::new(rt.stdout());
+    match Held::new(bytes.as_slice()) {
+        Ok(mut source) => print_frames(&mut source, &mut out)?,
+        Err(_) => writeln!(out, "too long")?,
+    }
+    out.flush()
+}
