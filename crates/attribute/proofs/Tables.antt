@@ -68,7 +68,7 @@ module _ (d : Attribute) where
   above low (a ∷ rest) zero s h = ltb-true low (a .id) (and-parts _ _ s .0)
   above low (a ∷ rest) (suc j) s h =
       let f = ltb-true low (a .id) (and-parts _ _ s .0) in
-      let g = above (a .id) rest j (and-parts _ _ s .1) (omega arith) in
+      let g : a .id < getD rest j d .id = above (a .id) rest j (and-parts _ _ s .1) (omega arith) in
       omega arith
 
   pub rises : (low : ℕ) (table : List Attribute) (i j : ℕ) → ids-above low table ≡ true → i < j → j < length table → getD table i d .id < getD table j d .id

@@ -1,7 +1,7 @@
 // The attributes that a stream can have: their ids, levels and rules.
 ghost use mathlib.Core.Path.{_≡_};
 ghost use denote.Ref.{now};
-ghost use Rattle.attribute.specs.Table.{find, attribute-of, Sound};
+ghost use Rattle.attribute.specs.Table.{attributes, find, attribute-of, Sound};
 
 mod names;
 mod table;
@@ -13,7 +13,7 @@ pub use table::ATT_MESSAGE_PROPERTIES;
 pub use table::ATT_RECIPIENTS;
 pub use table::ATT_RENDERING;
 pub use table::ATT_VERSION;
-pub use table::ATTRIBUTES;
+use table::ATTRIBUTES;
 
 // What an attribute's data are, and how they are read.
 #[derive(Clone, Copy, PartialEq, Eq, Debug)]
@@ -59,9 +59,10 @@ pub fn attribute_of(id: u32) -> Option<Attribute>
     find_in(&ATTRIBUTES, id)
 }
 
-// The table's rules: no id stands twice, levels are 1 or 2, and ids rise within each part that is written in their order.
-pub fn table_is_sound() -> u8
-    ensures { λ _. ⌜ Sound ⌝ }
+// Every attribute: those of a message by rising id, those of an attachment by rising id, those with a part of their own.
+pub fn all_attributes() -> &'static [Attribute]
+    ensures value { λ r. ⌜ now r ≡ attributes ⌝ }
+    ensures sound { λ _. ⌜ Sound ⌝ }
 {
-    0
+    &ATTRIBUTES
 }

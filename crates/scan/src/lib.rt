@@ -73,9 +73,9 @@ pub fn u16_at<S: Source>(source: &mut S, place: usize) -> Result<u16, Refusal>
     ensures same { λ _. ⌜ S·Source .content (now (source .exit)) ≡ S·Source .content (now (source .entry)) ⌝ }
     ensures value { λ r. ⌜ r ≡ asked val (meaning (S·Source .content (now (source .entry)))) place 2 ⌝ }
 {
-    let mut bytes = [0u8; 2];
-    source.fetch(place, &mut bytes)?;
-    Ok(u16::from_le_bytes(bytes))
+    let mut pair = [0u8; 2];
+    source.fetch(place, &mut pair)?;
+    Ok(u16::from_le_bytes(pair))
 }
 
 // The four bytes at `place` as a number, the lowest first.
@@ -83,7 +83,7 @@ pub fn u32_at<S: Source>(source: &mut S, place: usize) -> Result<u32, Refusal>
     ensures same { λ _. ⌜ S·Source .content (now (source .exit)) ≡ S·Source .content (now (source .entry)) ⌝ }
     ensures value { λ r. ⌜ r ≡ asked val (meaning (S·Source .content (now (source .entry)))) place 4 ⌝ }
 {
-    let mut bytes = [0u8; 4];
-    source.fetch(place, &mut bytes)?;
-    Ok(u32::from_le_bytes(bytes))
+    let mut four = [0u8; 4];
+    source.fetch(place, &mut four)?;
+    Ok(u32::from_le_bytes(four))
 }

@@ -45,7 +45,8 @@ impl<'a> Held<'a> {
     pub fn end(self) -> &'a [u8]
         ensures { λ r. ⌜ now r ≡ now (self .entry .bytes) ⌝ }
     {
-        self.bytes
+        let Held { bytes } = self;
+        bytes
     }
 }
 

@@ -1,5 +1,0 @@
-use Rattle.attribute.proofs.Tables.{sound}
-use Rattle.attribute.proofs.table_is_sound.Needs as need
-
-pub returns : need.returns
-returns c = sound
