@@ -1,3 +1,8 @@
+pub mod Admitted
+pub mod ClassTexts
 pub mod Normal
-pub mod Numbers
+pub mod LittleEndian
+pub mod Pairs
+pub mod Parts
+pub mod Spellings
 pub mod Worked

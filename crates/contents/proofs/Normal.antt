@@ -12,41 +12,22 @@ use Rattle.std.specs.declared.option.Option.{Option}
 use Rattle.std.specs.declared.option.Option.the-variants.{Some, None}
 use Rattle.std.specs.shelf.Lists.{All}
 use Rattle.std.proofs.shelf.Lists.{length-append, length-map}
-use Rattle.std.proofs.shelf.Tests.{eqb-true, eq-eqb, and-parts, cases-bool, le-leb, leb-true}
+use Rattle.std.proofs.shelf.Tests.{eqb-true, and-parts, cases-bool, le-leb, leb-true}
 use Rattle.source.specs.Bytes.{Octets, le, val, part, same-bytes}
 use Rattle.scan.specs.Texts.{also, nothing-more, before-zero}
 use Rattle.attribute.specs.declared.Rule.{Rule}
 use Rattle.attribute.specs.declared.Rule.the-variants as rule
 use Rattle.contents.specs.declared.dates.Date.{Date}
 use Rattle.contents.specs.declared.statuses.Status.{Status}
-use Rattle.contents.specs.Options.{where-true, then, exactly}
+use Rattle.contents.specs.Options.{where-true, then, exactly, number}
 use Rattle.contents.specs.Calendar.{month-length, is-date, word, date-in, checked, date-of, weekday}
 use Rattle.contents.specs.Classes.{Pair, pairs, means-pair, pair-from, pair-number, class-text}
 use Rattle.contents.specs.Digits.{digit, digit-pairs, capital}
-use Rattle.contents.specs.Status.{status-of, status-bits}
-use Rattle.contents.specs.Contents.{Contents, text, class, date, digits, status, importance, truth, raw, rendering, version, code-page, class-or, class-of, importance-of, is-rendering, rendering-in, version-data, means, normal, admits, normal-of, normal-data}
+use Rattle.contents.specs.Status.{status-in, status-bits}
+use Rattle.contents.specs.Contents.{Contents, text, class, date, digits, status, importance, truth, raw, rendering, version, code-page, class-or, class-of, ranked, importance-in, truth-in, code-page-in, right-rendering, rendering-in, checked-rendering, is-version, means, normal, admits, normal-of, normal-data}
 use Rattle.contents.specs.Laws.{Normal-means-same, Normal-decides}
-use Rattle.contents.proofs.Numbers.{length-le, val-le, val-part}
-
-pub where-some : {A : Type 0} (b : Bool) (a c : A) → where-true b a ≡ Some c → (b ≡ true) × (a ≡ c)
-where-some true a c e = (refl, cc)
-where-some false a c e = absurd (let z : _≡_ {A = ℕ} 0 1 = cc in omega arith)
-
-pub also-some : {A B : Type 0} (o : Option A) (f : A → B) (b : B) → also o f ≡ Some b → (a : A) × (o ≡ Some a) × (f a ≡ b)
-also-some (Some a) f b e = (a, refl, cc)
-also-some None f b e = absurd (let z : _≡_ {A = ℕ} 0 1 = cc in omega arith)
-
-pub then-some : {A B : Type 0} (o : Option A) (f : A → Option B) (b : B) → then o f ≡ Some b → (a : A) × (o ≡ Some a) × (f a ≡ Some b)
-then-some (Some a) f b e = (a, refl, e)
-then-some None f b e = absurd (let z : _≡_ {A = ℕ} 0 1 = cc in omega arith)
-
-pub exactly-some : (n : ℕ) (xs ys : List ℕ) → exactly n xs ≡ Some ys → (length xs ≡ n) × (xs ≡ ys)
-unfolding exactly
-exactly-some n xs ys e = let (t, same) = where-some (eqb (length xs) n) xs ys e in (eqb-true (length xs) n t, same)
-
-pub exactly-all : (n : ℕ) (xs : List ℕ) → length xs ≡ n → exactly n xs ≡ Some xs
-unfolding exactly
-exactly-all n xs e = rw (eq-eqb (length xs) n e)
+use Rattle.contents.proofs.LittleEndian.{length-le, val-le, val-part}
+use Rattle.contents.proofs.Parts.{where-some, also-some, then-some, exactly-some, exactly-all}
 
 -- Text: no zero before the last byte.
 abbrev pub No-zero : List ℕ → Type 0
@@ -279,21 +260,21 @@ normal-means rule.Digits d c o e =
     let (a, l) = digits-back d ns en in
     rw (← same) (rw a, omega (arith, length-append (map capital ns) (0 ∷ []), length-map ns capital))
 normal-means rule.Status d c o e =
-    let (ys, ey, same) = also-some (exactly 4 d) (λ ys. status (status-of (val ys))) c e in
-    rw (← same) (status-normal (status-of (val ys)), simp length-le (omega arith))
+    let (s, es, same) = also-some (status-in d) status c e in
+    rw (← same) (status-normal s, simp length-le (omega arith))
 normal-means rule.Priority d c o e =
-    let (n, en, same) = also-some (then (exactly 2 d) (λ ys. importance-of (val ys))) importance c e in
-    let (ys, ey, e₁) = then-some (exactly 2 d) (λ ys. importance-of (val ys)) n en in
-    let (t, is) = where-some (leb 1 (val ys) && leb (val ys) 3) (3 - val ys) n e₁ in
+    let (i, ei, same) = also-some (importance-in d) importance c e in
+    let (n, en, e₁) = then-some (number 2 d) ranked i ei in
+    let (t, is) = where-some (leb 1 n && leb n 3) (3 - n) i e₁ in
     let (low, high) = and-parts _ _ t in
-    rw (← same, ← is) (priority-normal (val ys) (leb-true 1 (val ys) low) (leb-true (val ys) 3 high), simp length-le (omega arith))
+    rw (← same, ← is) (priority-normal n (leb-true 1 n low) (leb-true n 3 high), simp length-le (omega arith))
 normal-means rule.YesNo d c o e =
-    let (ys, ey, same) = also-some (exactly 2 d) (λ ys. truth (not (eqb (val ys) 0))) c e in
-    rw (← same) (yes-normal (not (eqb (val ys) 0)), simp length-le (omega arith))
+    let (b, eb, same) = also-some (truth-in d) truth c e in
+    rw (← same) (yes-normal b, simp length-le (omega arith))
 normal-means rule.Raw d c o e = let same : raw d ≡ c = cc in rw (← same) (refl, omega arith)
 normal-means rule.Rendering d c o e =
-    let (ys, ey, e₁) = then-some (exactly 14 d) (λ ys. where-true (is-rendering ys) (rendering-in ys)) c e in
-    let (t, same) = where-some (is-rendering ys) (rendering-in ys) c e₁ in
+    let (ys, ey, e₁) = then-some (exactly 14 d) checked-rendering c e in
+    let (t, same) = where-some (right-rendering ys) (rendering-in ys) c e₁ in
     let (kind, flat) = and-parts _ _ t in
     let (l, is) = exactly-some 14 d ys ey in
     let long : length ys ≡ 14 = sym (ap length is) ∙ l in
@@ -303,14 +284,15 @@ normal-means rule.Rendering d c o e =
       simp (length-append, length-le) (omega arith),
     )
 normal-means rule.Version d c o e =
-    let (t, same) = where-some (same-bytes d version-data) version c e in
+    let (t, same) = where-some (is-version d) version c e in
     rw (← same) (refl, omega arith)
 normal-means rule.CodePage d c o e =
-    let (ys, ey, same) = also-some (exactly 8 d) (λ ys. code-page (val (part ys 0 4))) c e in
-    let (l, is) = exactly-some 8 d ys ey in
-    let long : length ys ≡ 8 = sym (ap length is) ∙ l in
-    let b : Octets ys = rw is at o in
-    rw (← same) (page-normal _ (val-part ys 0 4 b (omega arith)), simp (length-append, length-le) (omega arith))
+    let (n, en, same) = also-some (code-page-in d) code-page c e in
+    let (ys, ey, is) = also-some (exactly 8 d) (λ ys. val (part ys 0 4)) n en in
+    let (l, eq) = exactly-some 8 d ys ey in
+    let long : length ys ≡ 8 = sym (ap length eq) ∙ l in
+    let b : Octets ys = rw eq at o in
+    rw (← same, ← is) (page-normal _ (val-part ys 0 4 b (omega arith)), simp (length-append, length-le) (omega arith))
 normal-means rule.Recipients d c o e = absurd (let z : _≡_ {A = ℕ} 0 1 = cc in omega arith)
 normal-means rule.Properties d c o e = absurd (let z : _≡_ {A = ℕ} 0 1 = cc in omega arith)
 

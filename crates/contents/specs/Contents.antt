@@ -12,11 +12,11 @@ use Rattle.attribute.specs.declared.Rule.{Rule}
 use Rattle.attribute.specs.declared.Rule.the-variants as rule
 use Rattle.contents.specs.declared.dates.Date.{Date}
 use Rattle.contents.specs.declared.statuses.Status.{Status}
-use Rattle.contents.specs.Options.{where-true, then, exactly}
+use Rattle.contents.specs.Options.{where-true, then, exactly, number}
 use Rattle.contents.specs.Calendar.{date-of, weekday}
 use Rattle.contents.specs.Classes.{pairs, pair-number, class-text}
 use Rattle.contents.specs.Digits.{digit-pairs, capital}
-use Rattle.contents.specs.Status.{status-of, status-bits, flag}
+use Rattle.contents.specs.Status.{status-in, status-bits, flag}
 
 pub data Contents : Type 0 where
   text : List ℕ → Contents  -- the bytes before the closing zero
@@ -39,19 +39,42 @@ class-or t None = text t
 abbrev pub class-of : List ℕ → Contents
 class-of t = class-or t (pair-number t)
 
--- 3, 2 and 1 mean 0, 1 and 2.
-abbrev pub importance-of : ℕ → Option ℕ
-importance-of n = where-true (leb 1 n && leb n 3) (3 - n)
+-- Two bytes: 3, 2 and 1 mean 0, 1 and 2.
+abbrev pub ranked : ℕ → Option ℕ
+ranked n = where-true (leb 1 n && leb n 3) (3 - n)
+
+abbrev pub importance-in : List ℕ → Option ℕ
+importance-in xs = then (number 2 xs) ranked
+
+-- Two bytes: zero means no, any other number yes.
+abbrev pub nonzero : ℕ → Bool
+nonzero n = not (eqb n 0)
+
+abbrev pub truth-in : List ℕ → Option Bool
+truth-in xs = also (number 2 xs) nonzero
+
+-- A primary number of four bytes, and four bytes that are ignored.
+abbrev pub code-page-in : List ℕ → Option ℕ
+code-page-in xs = also (exactly 8 xs) (λ ys. val (part ys 0 4))
 
 -- A type of 1 or 2, a position, width and height, and flags of 0 or 1.
-abbrev pub is-rendering : List ℕ → Bool
-is-rendering xs = (eqb (val (part xs 0 2)) 1 || eqb (val (part xs 0 2)) 2) && leb (val (part xs 10 4)) 1
+abbrev pub right-rendering : List ℕ → Bool
+right-rendering xs = (eqb (val (part xs 0 2)) 1 || eqb (val (part xs 0 2)) 2) && leb (val (part xs 10 4)) 1
 
 abbrev pub rendering-in : List ℕ → Contents
 rendering-in xs = rendering (val (part xs 0 2)) (val (part xs 2 4)) (val (part xs 6 2)) (val (part xs 8 2)) (val (part xs 10 4))
 
+abbrev pub checked-rendering : List ℕ → Option Contents
+checked-rendering xs = where-true (right-rendering xs) (rendering-in xs)
+
+abbrev pub is-rendering : List ℕ → Bool
+is-rendering xs = isSome (then (exactly 14 xs) checked-rendering)
+
 abbrev pub version-data : List ℕ
 version-data = 0 ∷ (0 ∷ (1 ∷ (0 ∷ [])))
+
+abbrev pub is-version : List ℕ → Bool
+is-version xs = same-bytes xs version-data
 
 -- What data mean under a rule; nothing where the rule does not admit them.
 unfoldable pub means : Rule → List ℕ → Option Contents
@@ -59,13 +82,13 @@ means rule.Text xs = also (before-zero xs) text
 means rule.Class xs = also (before-zero xs) class-of
 means rule.Date xs = also (date-of xs) date
 means rule.Digits xs = also (digit-pairs xs) digits
-means rule.Status xs = also (exactly 4 xs) (λ ys. status (status-of (val ys)))
-means rule.Priority xs = also (then (exactly 2 xs) (λ ys. importance-of (val ys))) importance
-means rule.YesNo xs = also (exactly 2 xs) (λ ys. truth (not (eqb (val ys) 0)))
+means rule.Status xs = also (status-in xs) status
+means rule.Priority xs = also (importance-in xs) importance
+means rule.YesNo xs = also (truth-in xs) truth
 means rule.Raw xs = Some (raw xs)
-means rule.Rendering xs = then (exactly 14 xs) (λ ys. where-true (is-rendering ys) (rendering-in ys))
-means rule.Version xs = where-true (same-bytes xs version-data) version
-means rule.CodePage xs = also (exactly 8 xs) (λ ys. code-page (val (part ys 0 4)))
+means rule.Rendering xs = then (exactly 14 xs) checked-rendering
+means rule.Version xs = where-true (is-version xs) version
+means rule.CodePage xs = also (code-page-in xs) code-page
 means rule.Recipients xs = None
 means rule.Properties xs = None
 

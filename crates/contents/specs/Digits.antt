@@ -1,8 +1,9 @@
 -- Hexadecimal digits.
 use mathlib.Core.List.{List, [], _∷_}
-use mathlib.Core.Bool.{cond, _&&_}
+use mathlib.Core.Bool.{Bool, cond, _&&_}
 use Prim.Native.Nat.{ℕ, _+_, _-_}
 use lib.Dec.{eqb, leb, ltb}
+use Rattle.std.specs.Options.{isSome}
 use Rattle.std.specs.declared.option.Option.{Option}
 use Rattle.std.specs.declared.option.Option.the-variants.{Some, None}
 use Rattle.scan.specs.Texts.{also}
@@ -24,3 +25,6 @@ unfoldable pub digit-pairs : List ℕ → Option (List ℕ)
 digit-pairs [] = None
 digit-pairs (c ∷ []) = where-true (eqb c 0) []
 digit-pairs (c ∷ (d ∷ rest)) = then (digit c) (λ m. then (digit d) (λ n. also (digit-pairs rest) (λ ns. m ∷ (n ∷ ns))))
+
+abbrev pub are-pairs : List ℕ → Bool
+are-pairs xs = isSome (digit-pairs xs)

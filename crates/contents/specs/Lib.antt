@@ -5,4 +5,6 @@ pub mod Digits
 pub mod Examples
 pub mod Laws
 pub mod Options
+pub mod Spelling
 pub mod Status
+pub mod Steps

@@ -6,6 +6,8 @@ use lib.Dec.{eqb}
 use lib.ListN.{length}
 use Rattle.std.specs.declared.option.Option.{Option}
 use Rattle.std.specs.declared.option.Option.the-variants.{Some, None}
+use Rattle.source.specs.Bytes.{val}
+use Rattle.scan.specs.Texts.{also}
 
 abbrev pub where-true : {A : Type 0} → Bool → A → Option A
 where-true true a = Some a
@@ -18,3 +20,7 @@ then None f = None
 -- The bytes, where there are n of them.
 unfoldable pub exactly : ℕ → List ℕ → Option (List ℕ)
 exactly n xs = where-true (eqb (length xs) n) xs
+
+-- The number that n bytes mean.
+abbrev pub number : ℕ → List ℕ → Option ℕ
+number n xs = also (exactly n xs) val

@@ -1,4 +1,14 @@
 // Dates of the Gregorian calendar.
+ghost use mathlib.Core.Path.{_≡_};
+ghost use Prim.Native.Nat.{_<_};
+ghost use denote.Ref.{now};
+ghost use Rattle.source.specs.Content.{meaning};
+ghost use Rattle.scan.specs.Scans.{asked};
+ghost use Rattle.contents.specs.Calendar.{leap, month-length, is-date, day-number, weekday, word, date-in, checked, date-of};
+ghost use Rattle.contents.specs.Options.{then};
+use crate::fixed::fourteen;
+use source::Refusal;
+use source::Source;
 
 #[derive(Clone, Copy, PartialEq, Eq, Debug)]
 pub struct Date {
@@ -8,4 +18,76 @@ pub struct Date {
     pub hour: u16,
     pub minute: u16,
     pub second: u16,
+}
+
+fn is_leap(year: u16) -> bool
+    ensures { λ r. ⌜ r ≡ leap year ⌝ }
+{
+    year % 4 == 0 && (year % 100 != 0 || year % 400 == 0)
+}
+
+fn length_of(year: u16, month: u16) -> u16
+    ensures { λ r. ⌜ r ≡ month-length year month ⌝ }
+{
+    match month {
+        2 => { if is_leap(year) { 29 } else { 28 } }
+        4 | 6 | 9 | 11 => 30,
+        _ => 31,
+    }
+}
+
+impl Date {
+    fn is_right(self) -> bool
+        ensures { λ r. ⌜ r ≡ is-date self ⌝ }
+    {
+        1601 <= self.year
+            && self.year <= 9999
+            && 1 <= self.month
+            && self.month <= 12
+            && 1 <= self.day
+            && self.day <= length_of(self.year, self.month)
+            && self.hour <= 23
+            && self.minute <= 59
+            && self.second <= 59
+    }
+}
+
+fn word_of(bytes: &[u8; 14], k: usize) -> u16
+    requires { ⌜ k < 7 ⌝ }
+    ensures { λ r. ⌜ r ≡ word (now (bytes .entry)) k ⌝ }
+{
+    u16::from_le_bytes([bytes[2 * k], bytes[2 * k + 1]])
+}
+
+// The date in bytes, if it is one.
+fn right_date(bytes: Option<[u8; 14]>) -> Option<Date>
+    ensures { λ r. ⌜ r ≡ then bytes (λ ys. checked (date-in ys)) ⌝ }
+{
+    match bytes {
+        Some(bytes) => {
+            let date = Date {
+                year: word_of(&bytes, 0),
+                month: word_of(&bytes, 1),
+                day: word_of(&bytes, 2),
+                hour: word_of(&bytes, 3),
+                minute: word_of(&bytes, 4),
+                second: word_of(&bytes, 5),
+            };
+            if date.is_right() { Some(date) } else { None }
+        }
+        None => None,
+    }
+}
+
+// The date that data mean, if they mean one.
+pub fn date_at<S: Source>(
+    source: &mut S,
+    place: usize,
+    size: usize,
+) -> Result<Option<Date>, Refusal>
+    ensures same { λ _. ⌜ S·Source .content (now (source .exit)) ≡ S·Source .content (now (source .entry)) ⌝ }
+    ensures value { λ r. ⌜ r ≡ asked date-of (meaning (S·Source .content (now (source .entry)))) place size ⌝ }
+{
+    let bytes = fourteen(source, place, size)?;
+    Ok(right_date(bytes))
 }
