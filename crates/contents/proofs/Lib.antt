@@ -1,6 +1,7 @@
 pub mod Admitted
 pub mod ClassTexts
 pub mod Normal
+pub mod Days
 pub mod LittleEndian
 pub mod Pairs
 pub mod Parts

@@ -105,7 +105,7 @@ date-at xs d l y m b h i s ok =
     let same : date-in xs ≡ d = rw (y, m, b, h, i, s) in
     rw (exactly-all 14 xs l) (ap checked same ∙ rw ok)
 
-month-small : (y m : ℕ) → month-length y m ≤ 31
+pub month-small : (y m : ℕ) → month-length y m ≤ 31
 month-small y m = grind arith
 
 day-small : (y m d : ℕ) → leb d (month-length y m) ≡ true → d ≤ 31

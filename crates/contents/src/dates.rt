@@ -1,10 +1,10 @@
 // Dates of the Gregorian calendar.
 ghost use mathlib.Core.Path.{_≡_};
-ghost use Prim.Native.Nat.{_<_};
+ghost use Prim.Native.Nat.{_-_, _*_, _<_, _≤_};
 ghost use denote.Ref.{now};
 ghost use Rattle.source.specs.Content.{meaning};
 ghost use Rattle.scan.specs.Scans.{asked};
-ghost use Rattle.contents.specs.Calendar.{leap, month-length, is-date, day-number, weekday, word, date-in, checked, date-of};
+ghost use Rattle.contents.specs.Calendar.{leap, month-length, is-date, days-before, weekday, word, date-in, checked, date-of};
 ghost use Rattle.contents.specs.Options.{then};
 use crate::fixed::fourteen;
 use source::Refusal;
@@ -36,7 +36,30 @@ fn length_of(year: u16, month: u16) -> u16
     }
 }
 
+// The days in the months of a year before a month.
+fn days_ahead(year: u16, month: u16) -> u32
+    ensures value { λ r. ⌜ r ≡ days-before year (month - 1) ⌝ }
+    ensures bound { λ r. ⌜ r ≤ 31 * 65536 ⌝ }
+{
+    let mut days: u32 = 0;
+    for m in 1..month {
+        days += u32::from(length_of(year, m));
+    }
+    days
+}
+
 impl Date {
+    // 1 for Monday to 6, and 0 for Sunday.
+    pub fn weekday(self) -> u16
+        ensures { λ r. ⌜ r ≡ weekday self ⌝ }
+    {
+        let n = u32::from(self.year.saturating_sub(1601));
+        let years = 365 * n + n / 4 - n / 100 + n / 400;
+        let months = days_ahead(self.year, self.month);
+        let days = years + months + u32::from(self.day.saturating_sub(1));
+        ((days + 1) % 7) as u16
+    }
+
     fn is_right(self) -> bool
         ensures { λ r. ⌜ r ≡ is-date self ⌝ }
     {
