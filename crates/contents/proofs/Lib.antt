@@ -1,0 +1,9 @@
+pub mod Admitted
+pub mod ClassTexts
+pub mod Normal
+pub mod Days
+pub mod LittleEndian
+pub mod Pairs
+pub mod Parts
+pub mod Spellings
+pub mod Worked

@@ -1,0 +1,10 @@
+pub mod Calendar
+pub mod Classes
+pub mod Contents
+pub mod Digits
+pub mod Examples
+pub mod Laws
+pub mod Options
+pub mod Spelling
+pub mod Status
+pub mod Steps
