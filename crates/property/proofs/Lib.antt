@@ -1,0 +1,6 @@
+pub mod Bounds
+pub mod KeyReads
+pub mod LawsOfKinds
+pub mod ListReads
+pub mod Outcomes
+pub mod Runs

@@ -1,0 +1,7 @@
+pub mod Fields
+pub mod Kinds
+pub mod Lists
+pub mod Names
+pub mod Rows
+pub mod Values
+pub mod Writing

@@ -1,0 +1,17 @@
+// Judges lists of properties over any source, field by field, and indexes them.
+mod fields;
+mod kinds;
+mod lists;
+mod names;
+mod values;
+
+pub use kinds::Kind;
+pub use kinds::Shape;
+pub use kinds::kinds_are_lawful;
+pub use kinds::shape_of;
+pub use lists::LIST_LIMIT;
+pub use lists::ROW_LIMIT;
+pub use lists::one_property;
+pub use lists::property_list;
+pub use lists::recipient_table;
+pub use names::one_key;
