@@ -40,7 +40,13 @@ pub fn pen_le32(out: &mut [u8], here: Option<usize>, value: u32) -> Option<usize
 }
 
 // Writes the `size` bytes of the source from `place` on, where there are so many.
-pub fn pen_from<S: Source>(source: &mut S, place: usize, size: usize, out: &mut [u8], here: Option<usize>) -> Option<usize>
+pub fn pen_from<S: Source>(
+    source: &mut S,
+    place: usize,
+    size: usize,
+    out: &mut [u8],
+    here: Option<usize>,
+) -> Option<usize>
     ensures same { λ _. ⌜ S·Source .content (now (source .exit)) ≡ S·Source .content (now (source .entry)) ⌝ }
     ensures value { λ r. ⌜ (place + size ≤ length (meaning (S·Source .content (now (source .entry))))
         → Penned (now (out .entry)) here (part (meaning (S·Source .content (now (source .entry)))) place size) (now (out .exit)) r) ⌝ }

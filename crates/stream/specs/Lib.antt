@@ -1,0 +1,3 @@
+pub mod Reading
+pub mod Messages
+pub mod Writing
