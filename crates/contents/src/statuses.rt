@@ -19,7 +19,8 @@ pub struct Status {
     pub attached: bool,
 }
 
-fn flag_if(set: bool, value: u8) -> u8
+// The value of a flag that is set; 0 for another.
+pub fn flag_if(set: bool, value: u8) -> u8
     ensures { λ r. ⌜ r ≡ flag set value ⌝ }
 {
     if set { value } else { 0 }
@@ -38,7 +39,7 @@ impl Status {
     }
 
     // Its bits in normal data.
-    pub fn bits(self) -> u8
+    pub(crate) fn bits(self) -> u8
         ensures { λ r. ⌜ r ≡ status-bits self ⌝ }
     {
         flag_if(self.read, 0x20)

@@ -13,7 +13,6 @@ use Rattle.source.specs.Bytes.{le}
 use Rattle.pen.specs.Pen.{Penned, Told}
 
 infixr 20 _▷_
-
 told-none : (b : List ℕ) (o : Option ℕ) → Told b o [] b o
 told-none b None = refl
 told-none b (Some i) = (omega arith, sym (append-nil _))

@@ -22,6 +22,6 @@ returns-in-Ok g c =
     record {
       same = h .same;
       value = λ l. rw (c .in-Some .is) (
-        pen-mid (c .args .out .now) (c .in-Some .start) (c .args .size) _ _ (omega arith) (simp (length-take, length-drop) (omega arith)) (rw n at (h .value .1))
-      );
+          pen-mid (c .args .out .now) (c .in-Some .start) (c .args .size) _ _ (omega arith) (simp (length-take, length-drop) (omega arith)) (rw n at (h .value .1))
+          );
     }
