@@ -11,7 +11,7 @@ use lib.ListN.{length, drop, getD}
 use Rattle.std.specs.declared.option.Option.the-variants.{Some, None}
 use Rattle.std.proofs.shelf.Lists.{drop-more, drop-all}
 use Rattle.std.proofs.shelf.Equals.{compares-decides}
-use Rattle.std.proofs.shelf.Tests.{eq-eqb, cases-bool}
+use Rattle.std.proofs.shelf.Tests.{eq-eqb}
 use Rattle.source.specs.Bytes.{same-bytes}
 use Rattle.contents.specs.Classes.{class-text, means-pair, pair-from}
 use Rattle.contents.specs.Spelling.{spelled}

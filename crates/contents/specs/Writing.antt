@@ -1,7 +1,7 @@
 -- Writing normal data.
 use mathlib.Core.Path.{_≡_}
 use mathlib.Core.Bool.{cond, true, _&&_}
-use mathlib.Core.List.{List, map}
+use mathlib.Core.List.{List}
 use Prim.Native.Nat.{ℕ, _-_}
 use lib.Dec.{leb}
 use Rattle.std.specs.declared.option.Option.{Option}

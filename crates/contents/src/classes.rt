@@ -1,6 +1,6 @@
 // Message classes.
 ghost use mathlib.Core.Path.{_≡_};
-ghost use mathlib.Core.List.{List, map, _++_};
+ghost use mathlib.Core.List.{map, _++_};
 ghost use Prim.Native.Nat.{_≤_};
 ghost use denote.Ref.{now};
 ghost use Rattle.source.specs.Bytes.{same-bytes};

@@ -4,7 +4,6 @@ ghost use denote.Ref.{now};
 ghost use Rattle.source.specs.Content.{meaning};
 ghost use Rattle.scan.specs.Scans.{asked};
 ghost use Rattle.scan.specs.Texts.{also};
-ghost use Rattle.contents.specs.Options.{number};
 ghost use Rattle.contents.specs.Status.{flag, flags, status-bits, status-of, status-in};
 use crate::fixed::number32;
 use source::Refusal;

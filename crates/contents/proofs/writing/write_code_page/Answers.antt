@@ -1,4 +1,4 @@
-use mathlib.Core.Path.{refl, ap, sym, _∙_}
+use mathlib.Core.Path.{refl, ap, _∙_}
 use Rattle.attribute.specs.declared.Rule.the-variants as rules
 use Rattle.contents.specs.Contents.{code-page, code-page-in, means}
 use Rattle.contents.specs.Writing.{known}
