@@ -16,7 +16,6 @@ use Rattle.scan.specs.Scans.{asked}
 use Rattle.scan.specs.Texts.{before-zero, is-text8}
 use Rattle.attribute.specs.declared.Rule.{Rule}
 use Rattle.attribute.specs.declared.Rule.the-variants as rule
-use Rattle.contents.specs.Options.{then, exactly}
 use Rattle.contents.specs.Calendar.{date-of}
 use Rattle.contents.specs.Digits.{digit-pairs, are-pairs}
 use Rattle.contents.specs.Status.{status-in}

@@ -5,7 +5,6 @@ use mathlib.Core.Bool.{Bool, true, false, _&&_, _||_}
 use mathlib.Core.List.{List, [], _∷_, _++_}
 use mathlib.Core.Logic.{inl, inr}
 use native.Mathlib.Omega.{arith}
-use borrow.Author.Needs.{needs}
 use lib.Dec.{leb}
 use lib.ListN.{length, take, drop}
 use Rattle.std.specs.declared.option.Option.{Option}
@@ -69,7 +68,7 @@ long-data ys h = go (before-zero ys) refl
     go (Some t) e = long-none t (omega (arith, ap length (zero-gives ys t e .1), length-append t (0 ∷ [])))
     go None e = refl
 
-text-before : (ys : List ℕ) → is-text8 ys ≡ true → (t : List ℕ) × (before-zero ys ≡ Some t) × (ys ≡ t ++ 0 ∷ [])
+pub text-before : (ys : List ℕ) → is-text8 ys ≡ true → (t : List ℕ) × (before-zero ys ≡ Some t) × (ys ≡ t ++ 0 ∷ [])
 text-before ys e = go (before-zero ys) refl e
   where
     go : (o : Option (List ℕ)) → before-zero ys ≡ o → isSome o ≡ true → (t : List ℕ) × (before-zero ys ≡ Some t) × (ys ≡ t ++ 0 ∷ [])

@@ -7,3 +7,4 @@ pub mod Pairs
 pub mod Parts
 pub mod Spellings
 pub mod Worked
+pub mod Writes

@@ -1,30 +1,30 @@
 -- The normal data of contents mean the contents, under every rule.
 use Prim.Native.Nat.{ℕ, zero, suc, _+_, _-_, _^_, _<_, _≤_}
 use mathlib.Core.Path.{_≡_, refl, ap, sym, _∙_}
-use mathlib.Core.Logic.{inl, inr, _↔_}
-use mathlib.Core.Bool.{Bool, true, false, cond, not, _&&_, _||_}
+use mathlib.Core.Logic.{inl, inr}
+use mathlib.Core.Bool.{Bool, true, false, _&&_, _||_}
 use mathlib.Core.List.{List, [], _∷_, _++_, map}
 use native.Mathlib.Omega.{arith}
 use lib.ListN.{length}
-use lib.Dec.{eqb, leb, ltb}
+use lib.Dec.{eqb, leb}
 use Rattle.std.specs.Options.{isSome}
 use Rattle.std.specs.declared.option.Option.{Option}
 use Rattle.std.specs.declared.option.Option.the-variants.{Some, None}
 use Rattle.std.specs.shelf.Lists.{All}
 use Rattle.std.proofs.shelf.Lists.{length-append, length-map}
 use Rattle.std.proofs.shelf.Tests.{eqb-true, and-parts, cases-bool, le-leb, leb-true}
-use Rattle.source.specs.Bytes.{Octets, le, val, part, same-bytes}
+use Rattle.source.specs.Bytes.{Octets, le, val, part}
 use Rattle.scan.specs.Texts.{also, nothing-more, before-zero}
 use Rattle.attribute.specs.declared.Rule.{Rule}
 use Rattle.attribute.specs.declared.Rule.the-variants as rule
 use Rattle.contents.specs.declared.dates.Date.{Date}
 use Rattle.contents.specs.declared.statuses.Status.{Status}
-use Rattle.contents.specs.Options.{where-true, then, exactly, number}
-use Rattle.contents.specs.Calendar.{month-length, is-date, word, date-in, checked, date-of, weekday}
-use Rattle.contents.specs.Classes.{Pair, pairs, means-pair, pair-from, pair-number, class-text}
+use Rattle.contents.specs.Options.{then, exactly, number}
+use Rattle.contents.specs.Calendar.{month-length, is-date, word, date-in, checked, date-of}
+use Rattle.contents.specs.Classes.{Pair, pairs, means-pair, pair-from, pair-number}
 use Rattle.contents.specs.Digits.{digit, digit-pairs, capital}
-use Rattle.contents.specs.Status.{status-in, status-bits}
-use Rattle.contents.specs.Contents.{Contents, text, class, date, digits, status, importance, truth, raw, rendering, version, code-page, class-or, class-of, ranked, importance-in, truth-in, code-page-in, right-rendering, rendering-in, checked-rendering, is-version, means, normal, admits, normal-of, normal-data}
+use Rattle.contents.specs.Status.{status-in}
+use Rattle.contents.specs.Contents.{Contents, text, class, date, digits, status, importance, truth, raw, rendering, version, code-page, class-of, ranked, importance-in, truth-in, code-page-in, right-rendering, rendering-in, checked-rendering, is-version, means, normal, admits, normal-of, normal-data}
 use Rattle.contents.specs.Laws.{Normal-means-same, Normal-decides}
 use Rattle.contents.proofs.LittleEndian.{length-le, val-le, val-part}
 use Rattle.contents.proofs.Parts.{where-some, also-some, then-some, exactly-some, exactly-all}

@@ -1,6 +1,6 @@
 -- Message classes: how each is spelled in an attribute, and what a property calls it.
 use mathlib.Core.List.{List, [], _∷_, _++_}
-use mathlib.Core.Bool.{Bool, true, false, cond, _||_}
+use mathlib.Core.Bool.{Bool, cond, _||_}
 use Prim.Native.Nat.{ℕ, zero, suc, _+_}
 use lib.Chars.{codes}
 use Rattle.std.specs.declared.option.Option.{Option}

@@ -1,17 +1,17 @@
 -- Worked examples.
 use mathlib.Core.Path.{_≡_}
-use mathlib.Core.Bool.{Bool, true, false, _&&_}
+use mathlib.Core.Bool.{true, false}
 use mathlib.Core.List.{List, [], _∷_, _++_}
-use Prim.Native.Nat.{ℕ, suc, _+_}
+use Prim.Native.Nat.{ℕ, _+_}
 use lib.Chars.{codes}
-use Rattle.std.specs.declared.option.Option.the-variants.{Some, None}
+use Rattle.std.specs.declared.option.Option.the-variants.{Some}
 use Rattle.source.specs.Bytes.{le}
 use Rattle.attribute.specs.declared.Rule.the-variants as rule
 use Rattle.contents.specs.declared.dates.Date.{Date}
 use Rattle.contents.specs.Calendar.{weekday}
 use Rattle.contents.specs.Classes.{Pair, pairs, old-prefix}
 use Rattle.contents.specs.Status.{status-of, flags}
-use Rattle.contents.specs.Contents.{Contents, text, class, status, means, admits, normal-data}
+use Rattle.contents.specs.Contents.{text, class, status, means, admits}
 
 abbrev pub day : (year month day : ℕ) → Date
 day y m d = record { year = y; month = m; day = d; hour = 0; minute = 0; second = 0 }

@@ -8,3 +8,4 @@ pub mod Options
 pub mod Spelling
 pub mod Status
 pub mod Steps
+pub mod Writing

@@ -1,12 +1,12 @@
 // Message classes.
 ghost use mathlib.Core.Path.{_≡_};
-ghost use mathlib.Core.List.{List, map, _++_};
+ghost use mathlib.Core.List.{map, _++_};
 ghost use Prim.Native.Nat.{_≤_};
 ghost use denote.Ref.{now};
 ghost use Rattle.source.specs.Bytes.{same-bytes};
 ghost use Rattle.source.specs.Content.{meaning};
 ghost use Rattle.scan.specs.Scans.{asked};
-ghost use Rattle.contents.specs.Classes.{means-pair, pair-from, pair-number, pair-of};
+ghost use Rattle.contents.specs.Classes.{pairs, class-text, means-pair, pair-from, pair-number, pair-of};
 ghost use Rattle.contents.specs.Spelling.{spelled};
 use scan::is_text8;
 use source::Refusal;
@@ -97,6 +97,23 @@ pub fn class_of(text: &[u8]) -> Option<usize>
     ensures { λ r. ⌜ r ≡ pair-number (now (text .entry)) ⌝ }
 {
     number_in(&PAIRS, text)
+}
+
+// The attribute value of pair k of a table, from 1; nothing where there is no such pair.
+fn text_in(table: &[Pair], k: usize) -> &'static [u8]
+    ensures { λ r. ⌜ now r ≡ class-text (map spelled (now (table .entry))) k ⌝ }
+{
+    if k == 0 || k > table.len() {
+        return b"";
+    }
+    table[k - 1].attribute
+}
+
+// The attribute value of pair k, 1 to 8.
+pub fn class_text(k: usize) -> &'static [u8]
+    ensures { λ r. ⌜ now r ≡ class-text pairs k ⌝ }
+{
+    text_in(&PAIRS, k)
 }
 
 // The most bytes of a text that means a pair, with its zero byte.

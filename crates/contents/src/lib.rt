@@ -14,10 +14,12 @@ mod fixed;
 mod numbers;
 mod renderings;
 mod statuses;
+mod writing;
 
 use attribute::Rule;
 pub use classes::class_at;
 pub use classes::class_of;
+pub use classes::class_text;
 pub use dates::Date;
 pub use dates::date_at;
 pub use digits::are_digits;
@@ -33,6 +35,7 @@ use source::Refusal;
 use source::Source;
 pub use statuses::Status;
 pub use statuses::status_at;
+pub use writing::write_normal;
 
 // Whether the rule admits the `size` bytes from `place` on.
 pub fn admits<S: Source>(

@@ -4,7 +4,6 @@ ghost use mathlib.Core.Bool.{_&&_, _||_};
 ghost use denote.Ref.{now};
 ghost use lib.Dec.{eqb, leb};
 ghost use Rattle.std.specs.Options.{isSome};
-ghost use Rattle.source.specs.Bytes.{same-bytes};
 ghost use Rattle.source.specs.Content.{meaning};
 ghost use Rattle.scan.specs.Scans.{asked};
 ghost use Rattle.contents.specs.Contents.{right-rendering, checked-rendering, is-rendering, is-version};

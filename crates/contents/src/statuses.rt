@@ -4,7 +4,6 @@ ghost use denote.Ref.{now};
 ghost use Rattle.source.specs.Content.{meaning};
 ghost use Rattle.scan.specs.Scans.{asked};
 ghost use Rattle.scan.specs.Texts.{also};
-ghost use Rattle.contents.specs.Options.{number};
 ghost use Rattle.contents.specs.Status.{flag, flags, status-bits, status-of, status-in};
 use crate::fixed::number32;
 use source::Refusal;
@@ -19,7 +18,8 @@ pub struct Status {
     pub attached: bool,
 }
 
-fn flag_if(set: bool, value: u8) -> u8
+// The value of a flag that is set; 0 for another.
+pub fn flag_if(set: bool, value: u8) -> u8
     ensures { λ r. ⌜ r ≡ flag set value ⌝ }
 {
     if set { value } else { 0 }
@@ -38,7 +38,7 @@ impl Status {
     }
 
     // Its bits in normal data.
-    pub fn bits(self) -> u8
+    pub(crate) fn bits(self) -> u8
         ensures { λ r. ⌜ r ≡ status-bits self ⌝ }
     {
         flag_if(self.read, 0x20)

@@ -18,18 +18,19 @@ pub fn pen(out: &mut [u8], here: Option<usize>, bytes: &[u8]) -> Option<usize>
             if start > out.len() || size > out.len() - start {
                 return None;
             }
-            out[start..start + size].copy_from_slice(bytes);
-            Some(start + size)
+            let end = start + size;
+            out[start..end].copy_from_slice(bytes);
+            Some(end)
         }
         None => None,
     }
 }
 
 // Writes a number as two bytes, the lower first.
-pub fn pen_le16(out: &mut [u8], here: Option<usize>, value: u16) -> Option<usize>
-    ensures { λ r. ⌜ Penned (now (out .entry)) here (le 2 value) (now (out .exit)) r ⌝ }
+pub fn pen_le16(out: &mut [u8], here: Option<usize>, number: u16) -> Option<usize>
+    ensures { λ r. ⌜ Penned (now (out .entry)) here (le 2 number) (now (out .exit)) r ⌝ }
 {
-    pen(out, here, &value.to_le_bytes())
+    pen(out, here, &number.to_le_bytes())
 }
 
 // Writes a number as four bytes, the lowest first.

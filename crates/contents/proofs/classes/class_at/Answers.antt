@@ -1,7 +1,7 @@
-use mathlib.Core.Path.{_≡_, refl, ap, sym, _∙_}
+use mathlib.Core.Path.{_∙_}
 use native.Mathlib.Omega.{arith}
 use Rattle.std.proofs.shelf.Results.{err-from-errBy}
-use Rattle.scan.proofs.Parts.{asked-got, asked-too-far}
+use Rattle.scan.proofs.Parts.{asked-too-far}
 use Rattle.contents.proofs.ClassTexts.{text-size, class-not-text, class-too-long, class-before-zero}
 use Rattle.contents.proofs.classes.class_at.Needs as need
 

@@ -1,6 +1,4 @@
 use Prim.Native.Nat.{_-_}
-use mathlib.Core.Path.{_≡_, _∙_}
-use native.Mathlib.Omega.{arith}
 use borrow.Author.Needs.{needs}
 use Rattle.contents.proofs.Days.{weekday-is}
 use Rattle.contents.proofs.dates.Date.weekday.Needs as need
