@@ -1,4 +1,5 @@
 pub mod Fields
+pub mod Indexing
 pub mod Kinds
 pub mod Lists
 pub mod Names

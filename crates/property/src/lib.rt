@@ -1,10 +1,13 @@
 // Judges lists of properties over any source, field by field, and indexes them.
 mod fields;
+mod indexing;
 mod kinds;
 mod lists;
 mod names;
 mod values;
 
+pub use indexing::Listed;
+pub use indexing::rows;
 pub use kinds::Kind;
 pub use kinds::Shape;
 pub use kinds::kinds_are_lawful;
