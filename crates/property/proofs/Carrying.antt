@@ -1,8 +1,8 @@
 -- Rows that carry properties, one added after another.
 use Prim.Native.Nat.{ℕ, suc, _+_, _≤_, _<_}
-use mathlib.Core.Path.{_≡_, refl, sym, ap, _∙_}
+use mathlib.Core.Path.{_≡_, refl, sym, ap}
 use mathlib.Core.List.{List, [], _∷_, _++_}
-use mathlib.Core.Bool.{Bool, true, false, cond}
+use mathlib.Core.Bool.{false}
 use mathlib.Core.Logic.{inl, inr}
 use native.Mathlib.Omega.{arith}
 use lib.ListN.{length, take}
@@ -13,7 +13,7 @@ use Rattle.std.proofs.shelf.Tests.{cases-bool, le-leb, lt-leb}
 use Rattle.source.specs.Outcome.{Outcome, _>>=_, given, over, refused}
 use Rattle.source.specs.declared.refusals.Reason.the-variants.{FieldRule, ShortWork}
 use Rattle.source.specs.declared.refusals.Refusal.{Refusal}
-use Rattle.index.specs.Keys.{Key, key-of, same-key}
+use Rattle.index.specs.Keys.{Key, key-of}
 use Rattle.index.specs.Rows.{has, added}
 use Rattle.index.specs.declared.properties.PropertyRow.{PropertyRow}
 use Rattle.property.specs.Fields.{At, at, repeated}

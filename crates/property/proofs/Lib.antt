@@ -4,4 +4,5 @@ pub mod KeyReads
 pub mod LawsOfKinds
 pub mod ListReads
 pub mod Outcomes
+pub mod ReadBack
 pub mod Runs

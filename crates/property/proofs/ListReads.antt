@@ -1,12 +1,11 @@
 -- What a property, a list and a table give, from what their parts give.
 use Prim.Native.Nat.{ℕ, _+_, _≤_, _<_}
-use mathlib.Core.Path.{_≡_, refl, sym, ap, _∙_}
+use mathlib.Core.Path.{_≡_, _∙_}
 use mathlib.Core.List.{List}
-use native.Mathlib.Omega.{arith}
 use Rattle.std.specs.declared.option.Option.the-variants.{Some, None}
 use Rattle.std.specs.declared.result.Result.the-variants.{Ok, Err}
 use Rattle.std.proofs.shelf.Tests.{le-leb, lt-leb}
-use Rattle.source.specs.Outcome.{Outcome, _>>=_, refused}
+use Rattle.source.specs.Outcome.{Outcome, refused}
 use Rattle.source.specs.declared.refusals.Reason.the-variants.{FieldRule, Limit}
 use Rattle.source.specs.declared.refusals.Refusal.{Refusal}
 use Rattle.index.specs.Keys.{Key, key-of}
@@ -17,7 +16,7 @@ use Rattle.property.specs.Fields.{At, at, behind, repeated, number-at}
 use Rattle.property.specs.Kinds.{Value, shape-of}
 use Rattle.property.specs.Lists.{Property, property-from, property-at, list-limit, row-limit, list-at, table-at}
 use Rattle.property.specs.Names.{key-at}
-use Rattle.property.specs.Rows.{Carries, Read-at}
+use Rattle.property.specs.Rows.{Read-at}
 use Rattle.property.specs.Values.{values-at}
 use Rattle.property.proofs.Outcomes.{over-got, over-lost}
 

@@ -4,5 +4,6 @@ pub mod Kinds
 pub mod Lists
 pub mod Names
 pub mod Rows
+pub mod Validity
 pub mod Values
 pub mod Writing

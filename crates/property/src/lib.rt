@@ -5,6 +5,7 @@ mod kinds;
 mod lists;
 mod names;
 mod values;
+mod writing;
 
 pub use indexing::Listed;
 pub use indexing::rows;
@@ -18,3 +19,4 @@ pub use lists::one_property;
 pub use lists::property_list;
 pub use lists::recipient_table;
 pub use names::one_key;
+pub use writing::written_is_read_back;

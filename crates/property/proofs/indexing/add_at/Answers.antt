@@ -1,4 +1,3 @@
-use mathlib.Core.Path.{refl}
 use Rattle.std.proofs.shelf.Results.{err-from-errBy}
 use Rattle.property.proofs.indexing.add_at.Needs as need
 
