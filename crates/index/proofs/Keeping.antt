@@ -1,9 +1,9 @@
 -- What an index keeps, row by row.
-use Prim.Native.Nat.{ℕ, suc, _+_, _<_}
+use Prim.Native.Nat.{_+_, _<_}
 use mathlib.Core.Path.{_≡_, refl, sym, ap, _∙_}
 use mathlib.Core.Logic.{inl, inr}
-use mathlib.Core.List.{List, [], _∷_, _++_, reverse}
-use mathlib.Core.Bool.{Bool, true, false, not, cond, _||_}
+use mathlib.Core.List.{List, [], _∷_, _++_}
+use mathlib.Core.Bool.{Bool, true, false, cond, _||_}
 use native.Mathlib.Omega.{arith}
 use lib.ListN.{length}
 use Rattle.std.specs.shelf.Lists.{All, folded}
@@ -11,8 +11,8 @@ use Rattle.std.specs.declared.option.Option.{Option}
 use Rattle.std.specs.declared.option.Option.the-variants.{Some, None}
 use Rattle.std.proofs.shelf.Lists.{append-nil, append-assoc, reverse-append}
 use Rattle.std.proofs.shelf.Elements.{all-push, all-weaker}
-use Rattle.std.proofs.shelf.Tests.{cases-bool, both-ways, or-parts, or-from, or-left, or-right, or-cases}
-use Rattle.index.specs.Rows.{has, before, replaced, added, indexed}
+use Rattle.std.proofs.shelf.Tests.{cases-bool, both-ways, or-parts, or-from, or-left, or-right}
+use Rattle.index.specs.Rows.{has, before, replaced, added}
 use Rattle.index.specs.Laws.{found, standing, Apart, In-order, Kept, Lawful}
 
 module _ {R : Type 0} (same : R → R → Bool) (itself : (x : R) → same x x ≡ true)

@@ -2,7 +2,7 @@
 use Prim.Native.Nat.{ℕ, suc, _+_, _≤_, _<_, min}
 use mathlib.Core.Path.{_≡_, refl, sym, ap, _∙_}
 use mathlib.Core.Logic.{inl, inr, ⊎-elim}
-use mathlib.Core.List.{List, [], _∷_, _++_}
+use mathlib.Core.List.{List, [], _∷_}
 use mathlib.Core.Bool.{Bool, true, false, not, cond, _||_}
 use native.Mathlib.Omega.{arith}
 use native.Mathlib.Numerals.{one-add}
@@ -12,9 +12,9 @@ use lib.ListN.{length, take, drop, getD, set}
 use Rattle.std.specs.declared.option.Option.the-variants.{Some, None}
 use Rattle.std.proofs.shelf.Lists.{places, same-lists, take-more-set, drop-set-lt, length-set, length-take-le, getD-set-same, take-all}
 use Rattle.std.proofs.shelf.Sums.{leading-drop-yes, leading-drop-no, leading-drop-all}
-use Rattle.std.proofs.shelf.Tests.{cases-bool, cases-eq, cases-lt, lt-ltb, le-ltb, both-ways, or-parts}
+use Rattle.std.proofs.shelf.Tests.{cases-bool, cases-eq, cases-lt, lt-ltb, le-ltb, both-ways}
 use Rattle.std.proofs.shelf.Ways.{tells}
-use Rattle.index.specs.Rows.{has, before, position, replaced, added, Added}
+use Rattle.index.specs.Rows.{has, before, position, replaced, Added}
 
 has-step : (b c : Bool) (l n : ℕ) → ltb l n ≡ c → ltb (cond (not b) (1 + l) 0) (suc n) ≡ (b || c)
 has-step true c l n e = grind (arith, tells)

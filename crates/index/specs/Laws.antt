@@ -1,5 +1,5 @@
 -- What an index keeps, said of all rows that came and of the rows that it then has.
-use Prim.Native.Nat.{ℕ, _<_}
+use Prim.Native.Nat.{_<_}
 use mathlib.Core.Path.{_≡_}
 use mathlib.Core.List.{List, [], _∷_, reverse}
 use mathlib.Core.Bool.{Bool, false, cond}

@@ -1,6 +1,6 @@
 -- What the fields give, within the data and past their end.
 use Prim.Native.Nat.{ℕ, _+_, _-_, _≤_, _<_}
-use mathlib.Core.Path.{_≡_, sym, _∙_}
+use mathlib.Core.Path.{_≡_, _∙_}
 use mathlib.Core.List.{List, _++_}
 use native.Mathlib.Omega.{arith}
 use borrow.Author.Needs.{needs}
@@ -10,7 +10,6 @@ use Rattle.std.specs.declared.result.Result.the-variants.{Ok, Err}
 use Rattle.std.proofs.shelf.Lists.{places, take-at}
 use Rattle.std.proofs.shelf.Tests.{le-leb, lt-leb}
 use Rattle.source.specs.Bytes.{part, val}
-use Rattle.source.specs.Outcome.{refused}
 use Rattle.source.specs.declared.refusals.Reason.the-variants.{FieldEnd}
 use Rattle.source.specs.declared.refusals.Refusal.{Refusal}
 use Rattle.scan.specs.Scans.{asked}

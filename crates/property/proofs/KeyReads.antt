@@ -7,14 +7,14 @@ use lib.ListN.{length}
 use Rattle.std.specs.declared.result.Result.the-variants.{Ok, Err}
 use Rattle.std.proofs.shelf.Tests.{le-leb, lt-leb, lt-ltb, le-ltb}
 use Rattle.source.specs.Bytes.{part}
-use Rattle.source.specs.Outcome.{Outcome, refused}
+use Rattle.source.specs.Outcome.{refused}
 use Rattle.source.specs.declared.refusals.Reason.the-variants.{FieldRule}
 use Rattle.source.specs.declared.refusals.Refusal.{Refusal}
 use Rattle.scan.specs.Texts.{is-text16}
 use Rattle.scan.proofs.Numbers.{length-part}
-use Rattle.index.specs.Keys.{Key, tag, numbered, named}
+use Rattle.index.specs.Keys.{tag, numbered, named}
 use Rattle.index.specs.Limits.{name-limit}
-use Rattle.property.specs.Fields.{At, at, padded, field, number-at, sized}
+use Rattle.property.specs.Fields.{at, padded, field, number-at, sized}
 use Rattle.property.specs.Names.{first-named, name-string, name-number, name, key-at}
 use Rattle.property.specs.Rows.{sized-by}
 

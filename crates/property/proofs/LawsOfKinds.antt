@@ -3,13 +3,12 @@ use Prim.Native.Nat.{ℕ}
 use mathlib.Core.Path.{_≡_, refl, ap, sym, _∙_}
 use mathlib.Core.List.{List}
 use mathlib.Core.Bool.{Bool, true, false, cond, not}
-use native.Mathlib.Omega.{arith}
 use lib.Dec.{eqb}
 use lib.ListN.{length}
 use Rattle.source.specs.Bytes.{val, le}
 use Rattle.property.specs.declared.kinds.Kind.{Kind}
 use Rattle.property.specs.declared.kinds.Kind.the-variants.{Fixed, YesNo, String8, String16, Binary, Object}
-use Rattle.property.specs.Kinds.{Value, truth, bytes, value, normal, Admitted, Lawful}
+use Rattle.property.specs.Kinds.{truth, value, normal, Admitted, Lawful}
 
 length-truth : (b : Bool) → eqb (length (le 2 (cond b 1 0))) 2 ≡ true
 unfolding le

@@ -1,12 +1,11 @@
 -- What a property, a list and a table give, from what their parts give.
 use Prim.Native.Nat.{ℕ, _+_, _≤_, _<_}
-use mathlib.Core.Path.{_≡_, refl, sym, ap, _∙_}
+use mathlib.Core.Path.{_≡_, _∙_}
 use mathlib.Core.List.{List}
-use native.Mathlib.Omega.{arith}
 use Rattle.std.specs.declared.option.Option.the-variants.{Some, None}
 use Rattle.std.specs.declared.result.Result.the-variants.{Ok, Err}
 use Rattle.std.proofs.shelf.Tests.{le-leb, lt-leb}
-use Rattle.source.specs.Outcome.{Outcome, _>>=_, refused}
+use Rattle.source.specs.Outcome.{Outcome, refused}
 use Rattle.source.specs.declared.refusals.Reason.the-variants.{FieldRule, Limit}
 use Rattle.source.specs.declared.refusals.Refusal.{Refusal}
 use Rattle.index.specs.Keys.{Key, key-of}
@@ -17,7 +16,7 @@ use Rattle.property.specs.Fields.{At, at, behind, repeated, number-at}
 use Rattle.property.specs.Kinds.{Value, shape-of}
 use Rattle.property.specs.Lists.{Property, property-from, property-at, list-limit, row-limit, list-at, table-at}
 use Rattle.property.specs.Names.{key-at}
-use Rattle.property.specs.Rows.{Carries, Read-at}
+use Rattle.property.specs.Rows.{Read-at}
 use Rattle.property.specs.Values.{values-at}
 use Rattle.property.proofs.Outcomes.{over-got, over-lost}
 
@@ -59,27 +58,27 @@ module _ (xs : List ℕ) (end : ℕ) where
       let d = property-done p t n s (at (key-of k) v) a f is q in
       (record { key = key-of k; type = t; values = a .what }, property-stands p t s (at (key-of k) v) e f i ∙ d, (p, d))
 
-  pub list-short : (p : ℕ) (r : Refusal) → Err r ≡ number-at xs end p p 4 → Err r ≡ behind (list-at xs end p)
+  pub list-short : (p : ℕ) (r : Refusal) → Err r ≡ number-at xs end p p 4 → Err r ≡ list-at xs end p
   unfolding list-at
   list-short p r e = rw (← e)
 
-  pub list-long : (p n : ℕ) → Ok n ≡ number-at xs end p p 4 → list-limit < n → refused Limit p ≡ behind (list-at xs end p)
+  pub list-long : (p n : ℕ) → Ok n ≡ number-at xs end p p 4 → list-limit < n → refused Limit p ≡ list-at xs end p
   unfolding list-at
   list-long p n e h = rw (← e, lt-leb n list-limit h)
 
-  pub list-go : (p n : ℕ) → Ok n ≡ number-at xs end p p 4 → n ≤ list-limit → behind (repeated (property-at xs end) n (p + 4)) ≡ behind (list-at xs end p)
+  pub list-go : (p n : ℕ) → Ok n ≡ number-at xs end p p 4 → n ≤ list-limit → repeated (property-at xs end) n (p + 4) ≡ list-at xs end p
   unfolding list-at
   list-go p n e h = rw (← e, le-leb n list-limit h)
 
-  pub table-short : (p : ℕ) (r : Refusal) → Err r ≡ number-at xs end p p 4 → Err r ≡ behind (table-at xs end p)
+  pub table-short : (p : ℕ) (r : Refusal) → Err r ≡ number-at xs end p p 4 → Err r ≡ table-at xs end p
   unfolding table-at
   table-short p r e = rw (← e)
 
-  pub table-long : (p n : ℕ) → Ok n ≡ number-at xs end p p 4 → row-limit < n → refused Limit p ≡ behind (table-at xs end p)
+  pub table-long : (p n : ℕ) → Ok n ≡ number-at xs end p p 4 → row-limit < n → refused Limit p ≡ table-at xs end p
   unfolding table-at
   table-long p n e h = rw (← e, lt-leb n row-limit h)
 
-  pub table-go : (p n : ℕ) → Ok n ≡ number-at xs end p p 4 → n ≤ row-limit → behind (repeated (list-at xs end) n (p + 4)) ≡ behind (table-at xs end p)
+  pub table-go : (p n : ℕ) → Ok n ≡ number-at xs end p p 4 → n ≤ row-limit → repeated (list-at xs end) n (p + 4) ≡ table-at xs end p
   unfolding table-at
   table-go p n e h = rw (← e, le-leb n row-limit h)
 

@@ -16,7 +16,7 @@ use Rattle.source.specs.declared.refusals.Reason.the-variants.{FieldEnd, FieldR
 use Rattle.source.specs.declared.refusals.Refusal.{Refusal}
 use Rattle.property.specs.declared.kinds.Kind.{Kind}
 use Rattle.property.specs.Fields.{At, at, padded, behind, repeated, number-at, sized}
-use Rattle.property.specs.Kinds.{Value, admits}
+use Rattle.property.specs.Kinds.{admits}
 use Rattle.property.specs.Rows.{sized-by}
 use Rattle.property.specs.Values.{run-end, fixed-value, sized-value, fixed-values, sized-values}
 use Rattle.property.proofs.Outcomes.{over-got, over-lost}

@@ -11,7 +11,7 @@ use Rattle.source.specs.Outcome.{Outcome, _>>=_, _>>_, need}
 use Rattle.source.specs.declared.refusals.Reason.the-variants.{FieldEnd, FieldRule}
 use Rattle.property.specs.declared.kinds.Kind.{Kind}
 use Rattle.property.specs.declared.kinds.Shape.{Shape}
-use Rattle.property.specs.Fields.{At, at, padded, repeated, field, number-at, sized}
+use Rattle.property.specs.Fields.{At, at, padded, repeated, number-at, sized}
 use Rattle.property.specs.Kinds.{Value, value, admits, width}
 
 -- The place behind n values of a width, each padded.

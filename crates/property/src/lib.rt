@@ -1,10 +1,14 @@
 // Judges lists of properties over any source, field by field, and indexes them.
 mod fields;
+mod indexing;
 mod kinds;
 mod lists;
 mod names;
 mod values;
+mod writing;
 
+pub use indexing::Listed;
+pub use indexing::rows;
 pub use kinds::Kind;
 pub use kinds::Shape;
 pub use kinds::kinds_are_lawful;
@@ -15,3 +19,4 @@ pub use lists::one_property;
 pub use lists::property_list;
 pub use lists::recipient_table;
 pub use names::one_key;
+pub use writing::written_is_read_back;

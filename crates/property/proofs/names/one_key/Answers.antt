@@ -1,10 +1,8 @@
 use Prim.Native.Nat.{min}
 use mathlib.Core.Path.{_≡_, _∙_, ap}
 use lib.ListN.{length}
-use Rattle.std.specs.declared.result.Result.the-variants.{Ok}
 use Rattle.std.proofs.shelf.Results.{err-from-errBy}
 use Rattle.source.specs.Content.{meaning}
-use Rattle.property.specs.Fields.{at}
 use Rattle.property.specs.Names.{one-key}
 use Rattle.property.specs.Rows.{keyed}
 use Rattle.property.proofs.Outcomes.{whole-lost, whole-left, whole-got}

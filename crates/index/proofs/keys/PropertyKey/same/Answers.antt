@@ -1,5 +1,4 @@
 use mathlib.Core.Path.{_≡_}
-use mathlib.Core.Bool.{Bool}
 use borrow.Author.Needs.{needs}
 use lib.Dec.{eqb}
 use Rattle.index.specs.Keys.{key-of, same-key}
