@@ -1,11 +1,17 @@
-// Lists the frames of the stream on standard input.
+// Lists the frames of the stream on standard input, with what their data mean.
+mod lists;
+mod meanings;
+mod shown;
+
+use crate::lists::print_list;
+use crate::lists::print_table;
+use crate::meanings::print_meaning;
 use attribute::Attribute;
 use attribute::Rule;
 use attribute::name_of;
 use frame::Frame;
 use frame::Stage;
 use frame::header;
-use frame::next_frame;
 use source::Held;
 use source::HeldSource;
 use source::RefusalDisplay;
@@ -15,6 +21,7 @@ use std::io;
 use std::io::BufWriter;
 use std::io::Read;
 use std::io::Write;
+use stream::next_judged;
 
 const CHUNK: usize = 65_536;
 
@@ -54,6 +61,24 @@ fn print_frame<W: Write>(out: &mut W, frame: Frame) -> io::Result<()> {
     )
 }
 
+// The data of a frame begin behind its level, id and length.
+fn print_data<S: Source, W: Write>(out: &mut W, source: &mut S, frame: Frame) -> io::Result<()> {
+    let base = frame.place.saturating_add(9);
+    let end = base.saturating_add(frame.size);
+    match frame.attribute.rule {
+        Rule::Recipients => print_table(out, source, base, end),
+        Rule::Properties => {
+            print_list(out, source, base, end)?;
+            Ok(())
+        }
+        rule => {
+            write!(out, "  ")?;
+            print_meaning(out, source, rule, base, frame.size)?;
+            writeln!(out, "")
+        }
+    }
+}
+
 fn print_frames<S: Source, W: Write>(source: &mut S, out: &mut W) -> io::Result<()> {
     if let Err(refusal) = header(source) {
         return writeln!(out, "{refusal}");
@@ -62,11 +87,12 @@ fn print_frames<S: Source, W: Write>(source: &mut S, out: &mut W) -> io::Result<
     let mut stage = Stage::Version;
     let mut count: usize = 0;
     loop {
-        match next_frame(source, place, stage) {
+        match next_judged(source, place, stage) {
             Err(refusal) => return writeln!(out, "{refusal}"),
             Ok(None) => return writeln!(out, "{count} frames"),
             Ok(Some(frame)) => {
                 print_frame(out, frame)?;
+                print_data(out, source, frame)?;
                 place = frame.next;
                 stage = frame.stage;
                 count += 1;

@@ -17,6 +17,7 @@ pub use lists::LIST_LIMIT;
 pub use lists::ROW_LIMIT;
 pub use lists::one_property;
 pub use lists::property_list;
+pub use lists::read_property;
 pub use lists::recipient_table;
 pub use names::one_key;
 pub use writing::written_is_read_back;

@@ -129,6 +129,19 @@ fn table_at<S: Source>(source: &mut S, end: usize, place: usize) -> Result<usize
     lists_at(source, end, count, place + 4)
 }
 
+// The property at `place` of a list whose data end at `end`.
+pub fn read_property<S: Source>(
+    source: &mut S,
+    place: usize,
+    end: usize,
+) -> Result<PropertyRow, Refusal>
+    ensures same { λ _. ⌜ S·Source .content (now (source .exit)) ≡ S·Source .content (now (source .entry)) ⌝ }
+    ensures reads { λ r. ⌜ Read-at (meaning (S·Source .content (now (source .entry)))) (data-end (meaning (S·Source .content (now (source .entry)))) end) (property-at (meaning (S·Source .content (now (source .entry)))) (data-end (meaning (S·Source .content (now (source .entry)))) end) place) r ⌝ }
+{
+    let last = end.min(source.len());
+    property_at(source, last, place)
+}
+
 // The data from `base` to `end` as one property.
 pub fn one_property<S: Source>(
     source: &mut S,
