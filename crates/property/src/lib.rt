@@ -8,6 +8,7 @@ mod values;
 mod writing;
 
 pub use indexing::Listed;
+pub use indexing::list_index_is_lawful;
 pub use indexing::rows;
 pub use kinds::Kind;
 pub use kinds::Shape;
