@@ -168,7 +168,7 @@ fn print_property<S: Source, W: Write>(
     source: &mut S,
     row: &PropertyRow,
 ) -> io::Result<()> {
-    write!(out, "  ")?;
+    write!(out, "    ")?;
     print_key(out, &row.key)?;
     write!(out, " {}", type_name(row.number))?;
     let Some(shape) = shape_of(row.number) else {
@@ -195,7 +195,7 @@ pub fn print_list<S: Source, W: Write>(
     end: usize,
 ) -> io::Result<usize> {
     let count = u32_at(source, place).unwrap_or(0);
-    writeln!(out, "  {count} properties")?;
+    writeln!(out, "{count} properties")?;
     let mut here = place.saturating_add(4);
     for _ in 0..count {
         match read_property(source, here, end) {
@@ -221,7 +221,7 @@ pub fn print_table<S: Source, W: Write>(
     let mut here = place.saturating_add(4);
     for row in 0..count {
         if here < end {
-            writeln!(out, "  row {row}:")?;
+            write!(out, "  row {row}: ")?;
             here = print_list(out, source, here, end)?;
         }
     }

@@ -17,6 +17,9 @@ use source::HeldSource;
 use source::RefusalDisplay;
 use source::SOURCE_LIMIT;
 use source::Source;
+use std::alloc::Global;
+use std::env;
+use std::fs::File;
 use std::io;
 use std::io::BufWriter;
 use std::io::Read;
@@ -25,13 +28,12 @@ use stream::next_judged;
 
 const CHUNK: usize = 65_536;
 
-// All of standard input, or as much as shows that it is too long for a source.
-fn input(rt: &LibcRuntime) -> io::Result<Vec<u8>> {
-    let mut stdin = rt.stdin();
-    let mut bytes = Vec::new(rt.alloc());
+// All that a reader gives, or as much as shows that it is too long for a source.
+fn input<R: Read>(reader: &mut R, heap: Global) -> io::Result<Vec<u8>> {
+    let mut bytes = Vec::new(heap);
     let mut chunk = [0u8; CHUNK];
     for _ in 0..u64::MAX {
-        let n = stdin.read(&mut chunk)?;
+        let n = reader.read(&mut chunk)?;
         if n == 0 || bytes.len() > SOURCE_LIMIT {
             break;
         }
@@ -40,7 +42,7 @@ fn input(rt: &LibcRuntime) -> io::Result<Vec<u8>> {
     Ok(bytes)
 }
 
-// Some other than a class's checksum is compared with the sum of the data.
+// Every checksum but a class's is compared with the sum of the data.
 fn compared(attribute: Attribute) -> &'static str {
     match attribute.rule {
         Rule::Class => "not compared",
@@ -61,6 +63,17 @@ fn print_frame<W: Write>(out: &mut W, frame: Frame) -> io::Result<()> {
     )
 }
 
+// Whose properties a frame at a stage holds.
+fn print_owner<W: Write>(out: &mut W, stage: Stage) -> io::Result<()> {
+    match stage {
+        Stage::Attachment(count) => {
+            let k = count.saturating_sub(1);
+            write!(out, "  attachment {k}: ")
+        }
+        _ => write!(out, "  message: "),
+    }
+}
+
 // The data of a frame begin behind its level, id and length.
 fn print_data<S: Source, W: Write>(out: &mut W, source: &mut S, frame: Frame) -> io::Result<()> {
     let base = frame.place.saturating_add(9);
@@ -68,6 +81,7 @@ fn print_data<S: Source, W: Write>(out: &mut W, source: &mut S, frame: Frame) ->
     match frame.attribute.rule {
         Rule::Recipients => print_table(out, source, base, end),
         Rule::Properties => {
+            print_owner(out, frame.stage)?;
             print_list(out, source, base, end)?;
             Ok(())
         }
@@ -101,12 +115,30 @@ fn print_frames<S: Source, W: Write>(source: &mut S, out: &mut W) -> io::Result<
     }
 }
 
+fn print_stream<W: Write>(out: &mut W, bytes: &[u8]) -> io::Result<()> {
+    match Held::new(bytes) {
+        Ok(mut source) => print_frames(&mut source, out),
+        Err(_) => writeln!(out, "too long"),
+    }
+}
+
+// Lists each file that is named, or standard input for `-` and where none is.
 fn main(rt: LibcRuntime) -> io::Result<()> {
-    let bytes = input(&rt)?;
     let mut out = BufWriter::new(rt.stdout());
-    match Held::new(bytes.as_slice()) {
-        Ok(mut source) => print_frames(&mut source, &mut out)?,
-        Err(_) => writeln!(out, "too long")?,
+    let mut files: usize = 0;
+    for name in env::args(&rt)?.skip(1) {
+        files = files.saturating_add(1);
+        let bytes = if name.as_str() == "-" {
+            input(&mut rt.stdin(), rt.alloc())?
+        } else {
+            input(&mut File::open(&rt, name.as_str())?, rt.alloc())?
+        };
+        writeln!(out, "{name}:")?;
+        print_stream(&mut out, bytes.as_slice())?;
+    }
+    if files == 0 {
+        let bytes = input(&mut rt.stdin(), rt.alloc())?;
+        print_stream(&mut out, bytes.as_slice())?;
     }
     out.flush()
 }

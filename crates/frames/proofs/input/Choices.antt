@@ -3,4 +3,4 @@ use lib.ListN.{length}
 use Rattle.frames.proofs.input.Given as given
 
 abbrev pub Inv-loop : given.InvT-loop
-Inv-loop l = length (l .chunk) ≡ 65536
+Inv-loop g l = length (l .chunk) ≡ 65536
