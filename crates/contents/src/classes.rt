@@ -55,7 +55,7 @@ const PAIRS: [Pair; 8] = [
 ];
 
 // Whether two slices hold the same bytes.
-pub fn same(a: &[u8], b: &[u8]) -> bool
+pub(crate) fn same(a: &[u8], b: &[u8]) -> bool
     ensures { λ r. ⌜ r ≡ same-bytes (now (a .entry)) (now (b .entry)) ⌝ }
 {
     a == b

@@ -13,7 +13,7 @@ use source::Refusal;
 use source::Source;
 
 // Refuses a part that goes past the end.
-pub fn reach<S: Source>(source: &S, place: usize, size: usize) -> Result<(), Refusal>
+pub(crate) fn reach<S: Source>(source: &S, place: usize, size: usize) -> Result<(), Refusal>
     ensures { λ r. ⌜ r ≡ asked (λ _. tt) (meaning (S·Source .content (now (source .entry)))) place size ⌝ }
 {
     let total = source.len();
@@ -27,7 +27,7 @@ pub fn reach<S: Source>(source: &S, place: usize, size: usize) -> Result<(), Ref
 }
 
 // Answers the same of every part that is there.
-pub fn of_any<S: Source>(
+pub(crate) fn of_any<S: Source>(
     source: &S,
     place: usize,
     size: usize,
@@ -40,7 +40,7 @@ pub fn of_any<S: Source>(
 }
 
 // Whether something was read.
-pub fn present<T: Drop>(read: Result<Option<T>, Refusal>) -> Result<bool, Refusal>
+pub(crate) fn present<T: Drop>(read: Result<Option<T>, Refusal>) -> Result<bool, Refusal>
     ensures { λ r. ⌜ r ≡ over isSome read ⌝ }
 {
     match read {
@@ -50,7 +50,7 @@ pub fn present<T: Drop>(read: Result<Option<T>, Refusal>) -> Result<bool, Refusa
 }
 
 // The bytes of a part, where there are fourteen.
-pub fn fourteen<S: Source>(
+pub(crate) fn fourteen<S: Source>(
     source: &mut S,
     place: usize,
     size: usize,
@@ -68,7 +68,7 @@ pub fn fourteen<S: Source>(
 }
 
 // The number that a part of two bytes means.
-pub fn number16<S: Source>(
+pub(crate) fn number16<S: Source>(
     source: &mut S,
     place: usize,
     size: usize,
@@ -85,7 +85,7 @@ pub fn number16<S: Source>(
 }
 
 // The number that a part of four bytes means.
-pub fn number32<S: Source>(
+pub(crate) fn number32<S: Source>(
     source: &mut S,
     place: usize,
     size: usize,

@@ -19,7 +19,7 @@ pub struct Status {
 }
 
 // The value of a flag that is set; 0 for another.
-pub fn flag_if(set: bool, value: u8) -> u8
+pub(crate) fn flag_if(set: bool, value: u8) -> u8
     ensures { λ r. ⌜ r ≡ flag set value ⌝ }
 {
     if set { value } else { 0 }

@@ -17,7 +17,7 @@ use source::Refusal;
 use source::Source;
 
 // Refuses a field that passes the end of the data, at the first byte of its property.
-pub fn fits(end: usize, start: usize, place: usize, size: usize) -> Result<(), Refusal>
+pub(crate) fn fits(end: usize, start: usize, place: usize, size: usize) -> Result<(), Refusal>
     ensures { λ r. ⌜ r ≡ need (leb (place + size) end) FieldEnd start ⌝ }
 {
     if size > end || place > end - size {
@@ -30,7 +30,7 @@ pub fn fits(end: usize, start: usize, place: usize, size: usize) -> Result<(), R
 }
 
 // Refuses what is left between the place behind what was read and the end of the data.
-pub fn ends_at(next: usize, end: usize) -> Result<(), Refusal>
+pub(crate) fn ends_at(next: usize, end: usize) -> Result<(), Refusal>
     ensures { λ r. ⌜ r ≡ need (eqb next end) LeftOver next ⌝ }
 {
     if next != end {
@@ -43,7 +43,7 @@ pub fn ends_at(next: usize, end: usize) -> Result<(), Refusal>
 }
 
 // How many bytes `size` are with their padding.
-pub fn padded(size: usize) -> usize
+pub(crate) fn padded(size: usize) -> usize
     requires { ⌜ size < 2 ^ 32 ⌝ }
     ensures { λ r. ⌜ r ≡ padded size ⌝ }
 {
@@ -51,7 +51,7 @@ pub fn padded(size: usize) -> usize
 }
 
 // The two bytes at `place` as a number.
-pub fn number2<S: Source>(
+pub(crate) fn number2<S: Source>(
     source: &mut S,
     end: usize,
     start: usize,
@@ -67,7 +67,7 @@ pub fn number2<S: Source>(
 }
 
 // The four bytes at `place` as a number.
-pub fn number4<S: Source>(
+pub(crate) fn number4<S: Source>(
     source: &mut S,
     end: usize,
     start: usize,
@@ -83,7 +83,7 @@ pub fn number4<S: Source>(
 }
 
 // The GUID at `place`.
-pub fn guid_at<S: Source>(
+pub(crate) fn guid_at<S: Source>(
     source: &mut S,
     end: usize,
     start: usize,
@@ -101,7 +101,7 @@ pub fn guid_at<S: Source>(
 }
 
 // The size at `place` of the bytes behind it, which end with their padding by `end`.
-pub fn size_at<S: Source>(
+pub(crate) fn size_at<S: Source>(
     source: &mut S,
     end: usize,
     start: usize,

@@ -26,7 +26,7 @@ pub const LIST_LIMIT: u32 = 1024;
 pub const ROW_LIMIT: u32 = 1024;
 
 // The property at `place`.
-pub fn property_at<S: Source>(
+pub(crate) fn property_at<S: Source>(
     source: &mut S,
     end: usize,
     place: usize,

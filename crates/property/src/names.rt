@@ -132,7 +132,7 @@ fn name_at<S: Source>(
 }
 
 // The key at `place`.
-pub fn key_at<S: Source>(
+pub(crate) fn key_at<S: Source>(
     source: &mut S,
     end: usize,
     start: usize,

@@ -149,7 +149,7 @@ fn sized_values<S: Source>(
 }
 
 // The place behind the values at `place`.
-pub fn values_at<S: Source>(
+pub(crate) fn values_at<S: Source>(
     source: &mut S,
     end: usize,
     start: usize,
