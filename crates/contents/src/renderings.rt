@@ -38,7 +38,11 @@ fn is_right(bytes: Option<[u8; 14]>) -> bool
 }
 
 // Whether data are a rendering: of type 1 or 2, with flags of 0 or 1.
-pub(crate) fn is_rendering<S: Source>(source: &mut S, place: usize, size: usize) -> Result<bool, Refusal>
+pub(crate) fn is_rendering<S: Source>(
+    source: &mut S,
+    place: usize,
+    size: usize,
+) -> Result<bool, Refusal>
     ensures same { λ _. ⌜ S·Source .content (now (source .exit)) ≡ S·Source .content (now (source .entry)) ⌝ }
     ensures value { λ r. ⌜ r ≡ asked is-rendering (meaning (S·Source .content (now (source .entry)))) place size ⌝ }
 {
@@ -47,7 +51,11 @@ pub(crate) fn is_rendering<S: Source>(source: &mut S, place: usize, size: usize)
 }
 
 // Whether data are the one version, 00 00 01 00.
-pub(crate) fn is_version<S: Source>(source: &mut S, place: usize, size: usize) -> Result<bool, Refusal>
+pub(crate) fn is_version<S: Source>(
+    source: &mut S,
+    place: usize,
+    size: usize,
+) -> Result<bool, Refusal>
     ensures same { λ _. ⌜ S·Source .content (now (source .exit)) ≡ S·Source .content (now (source .entry)) ⌝ }
     ensures value { λ r. ⌜ r ≡ asked is-version (meaning (S·Source .content (now (source .entry)))) place size ⌝ }
 {
