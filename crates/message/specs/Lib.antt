@@ -1,0 +1,6 @@
+pub mod Reading
+pub mod Messages
+pub mod Writing
+pub mod Sameness
+pub mod Grammar
+pub mod Promise
