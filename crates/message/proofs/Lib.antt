@@ -12,3 +12,4 @@ pub mod Laying
 pub mod Telling
 pub mod Carried
 pub mod Forms
+pub mod Evaluated

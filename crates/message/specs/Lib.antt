@@ -4,3 +4,4 @@ pub mod Writing
 pub mod Sameness
 pub mod Grammar
 pub mod Promise
+pub mod Examples
