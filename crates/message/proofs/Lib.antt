@@ -1,0 +1,15 @@
+pub mod Pieces
+pub mod Outcomes
+pub mod Readers
+pub mod PropertyReads
+pub mod FrameReads
+pub mod Orders
+pub mod Streams
+pub mod Rewrites
+pub mod Indexing
+pub mod NormalData
+pub mod Laying
+pub mod Telling
+pub mod Carried
+pub mod Forms
+pub mod Evaluated

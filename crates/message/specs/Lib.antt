@@ -1,0 +1,4 @@
+pub mod Sameness
+pub mod Grammar
+pub mod Promise
+pub mod Examples
