@@ -10,7 +10,7 @@ use Rattle.std.specs.declared.option.Option.{Option}
 use Rattle.std.specs.declared.option.Option.the-variants.{Some, None}
 use Rattle.std.proofs.shelf.Lists.{places, same-lists, length-append}
 use Rattle.source.specs.Bytes.{le}
-use Rattle.pen.specs.Pen.{Penned, Told}
+use Rattle.pen.specs.Pen.{Penned, Told, Leads}
 
 infixr 20 _▷_
 told-none : (b : List ℕ) (o : Option ℕ) → Told b o [] b o
@@ -34,6 +34,14 @@ pub _▷_ : {b : List ℕ} {o : Option ℕ} {xs m : List ℕ} {p : Option ℕ} {
     → Penned b o xs m p → Penned m p ys a r → Penned b o (xs ++ ys) a r
 _▷_ {b} {o} {xs} {m} {p} {ys} {a} {r} s t =
     record { kept = t .kept ∙ s .kept; told = told-then b o xs m p ys a r (s .kept) (s .told) (t .told) }
+
+-- One part more of what is left, and nothing left.
+pub leads-on : {b : List ℕ} {o : Option ℕ} {whole m : List ℕ} {p : Option ℕ} {rest xs rest′ m′ : List ℕ} {q : Option ℕ}
+    → Leads b o whole m p rest → rest ≡ xs ++ rest′ → Penned m p xs m′ q → Leads b o whole m′ q rest′
+leads-on l e s a r t = l a r (rw e (s ▷ t))
+
+pub leads-end : {b : List ℕ} {o : Option ℕ} {whole m : List ℕ} {p : Option ℕ} {rest : List ℕ} → Leads b o whole m p rest → rest ≡ [] → Penned b o whole m p
+leads-end {m = m} {p = p} l e = l m p (rw e pen-none)
 
 -- What a write to `out[i..i + n]` leaves.
 pub pen-mid : (b : List ℕ) (i n : ℕ) (xs ys : List ℕ) → i + n ≤ length b → length ys ≡ n → xs ≡ ys

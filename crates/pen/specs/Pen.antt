@@ -15,3 +15,7 @@ Told before (Some here) bytes after (Some n) = (n ≡ here + length bytes) × (t
 pub record Penned (before : List ℕ) (here : Option ℕ) (bytes after : List ℕ) (r : Option ℕ) : Type 0 where
   pub kept : length after ≡ length before
   pub told : Told before here bytes after r
+
+-- Whatever writes `rest` from here on has then written `whole` from where it began: what a loop of writers keeps.
+abbrev pub Leads : List ℕ → Option ℕ → List ℕ → List ℕ → Option ℕ → List ℕ → Type 0
+Leads before start whole now here rest = (after : List ℕ) (r : Option ℕ) → Penned now here rest after r → Penned before start whole after r

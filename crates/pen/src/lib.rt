@@ -2,7 +2,7 @@
 ghost use mathlib.Core.Path.{_≡_};
 ghost use Prim.Native.Nat.{_+_, _≤_};
 ghost use denote.Ref.{now};
-ghost use lib.ListN.{length};
+ghost use lib.ListN.{length, replicate};
 ghost use Rattle.source.specs.Bytes.{part, le};
 ghost use Rattle.source.specs.Content.{meaning};
 ghost use Rattle.pen.specs.Pen.{Penned};
@@ -38,6 +38,22 @@ pub fn pen_le32(out: &mut [u8], here: Option<usize>, value: u32) -> Option<usize
     ensures { λ r. ⌜ Penned (now (out .entry)) here (le 4 value) (now (out .exit)) r ⌝ }
 {
     pen(out, here, &value.to_le_bytes())
+}
+
+// Writes `count` zeros.
+pub fn pen_zeros(out: &mut [u8], here: Option<usize>, count: usize) -> Option<usize>
+    ensures { λ r. ⌜ Penned (now (out .entry)) here (replicate count 0) (now (out .exit)) r ⌝ }
+{
+    match here {
+        Some(start) => {
+            if start > out.len() || count > out.len() - start {
+                return None;
+            }
+            out[start..start + count].fill(0);
+            Some(start + count)
+        }
+        None => None,
+    }
 }
 
 // Writes the `size` bytes of the source from `place` on, where there are so many.

@@ -1,0 +1,4 @@
+pub mod ListForms
+pub mod RowForms
+pub mod ValueForms
+pub mod WalkSteps
