@@ -27,11 +27,14 @@ use Rattle.property.specs.Lists.{Property, row-limit, list-limit, indexed}
 use Rattle.property.specs.Writing.{write-list, write-table}
 use Rattle.message.specs.Reading.{Meant, version, primary, contents, list, table, Entry, Nature, plain, opening, page, rows, properties, nature}
 use Rattle.message.specs.Messages.{Message, Holding, or-else, or-default, first, as-contents, as-list, as-table, as-primary, contents-under, properties-of, rows-of, primary-of, holding-of, message-part, attachment-parts, message-of}
-use Rattle.message.specs.Grammar.{_▷_, run, Data-mean, Laid, frame-bytes, Right, entry, Is, Attached, attached, Begun, In-order, Stream, list-bytes, table-bytes}
+use Rattle.message.specs.Grammar.{_▷_, run, Data-mean, Laid, frame-bytes, Right, Is, Attached, attached, Begun, In-order, Stream, list-bytes, table-bytes}
 use Rattle.message.proofs.Pieces.{octets-left}
 use Rattle.message.proofs.Rewrites.{Told-by, list-turns, table-turns, table-parts, list-from}
 use Rattle.message.proofs.Indexing.{Apart-keys, Well-list, indexed-list, indexed-rows, indexed-size, table-size}
 use Rattle.message.proofs.NormalData.{normal-octets, page-small}
+use Rattle.message.proofs.FrameReads.{entry}
+use Rattle.message.proofs.Roles.{is-plain, home, is-rendering, at-place, rendering-plain, Right-attached, all-parts, front, By-target, by-target}
+use Rattle.message.proofs.Earliest.{tells-back}
 use Rattle.message.proofs.Laying.{Meets, Known, Well-holding, Well-attachment, Well}
 
 -- What data told.
@@ -85,48 +88,6 @@ page-rule rule.CodePage n = refl
 page-rule rule.Recipients n = absurd (let z : _≡_ {A = ℕ} 0 1 = cc n in omega arith)
 page-rule rule.Properties n = absurd (let z : _≡_ {A = ℕ} 0 1 = cc n in omega arith)
 
--- Where attributes may stand.
-abbrev is-plain : Nature → Bool
-is-plain plain = true
-is-plain opening = false
-is-plain page = false
-is-plain rows = false
-is-plain properties = false
-
-abbrev is-begins : Role → Bool
-is-begins begins-attachment = true
-is-begins of-message = false
-is-begins of-attachment = false
-is-begins opens = false
-is-begins names-page = false
-
-abbrev home : Role → List Attribute
-home of-message = message-attributes
-home of-attachment = attachment-attributes
-home begins-attachment = rendering-attribute ∷ []
-home opens = []
-home names-page = []
-
-abbrev At-home : Attribute → Type 0
-At-home a =
-    (eqb (a .id) rendering-id ≡ is-begins (role a)) × ((not (is-plain (nature (a .rule))) || has-id (a .id) (home (role a))) ≡ true)
-    × ((not (is-begins (role a)) || is-plain (nature (a .rule))) ≡ true)
-
-homes : All At-home attributes
-homes = ((refl, refl, refl), ((refl, refl, refl), ((refl, refl, refl), ((refl, refl, refl), ((refl, refl, refl), ((refl, refl, refl), ((refl, refl, refl), ((refl, refl, refl), ((refl, refl, refl), ((refl, refl, refl), ((refl, refl, refl), ((refl, refl, refl), ((refl, refl, refl), ((refl, refl, refl), ((refl, refl, refl), ((refl, refl, refl), ((refl, refl, refl), ((refl, refl, refl), ((refl, refl, refl), ((refl, refl, refl), ((refl, refl, refl), ((refl, refl, refl), ((refl, refl, refl), ((refl, refl, refl), ((refl, refl, refl), ((refl, refl, refl), ((refl, refl, refl), ((refl, refl, refl), ((refl, refl, refl), ((refl, refl, refl), tt))))))))))))))))))))))))))))))
-
-find-gives : (P : Attribute → Type 0) (ls : List Attribute) (i : ℕ) (a : Attribute) → All P ls → find ls i ≡ Some a → P a
-find-gives P [] i a all is = absurd (let z : _≡_ {A = ℕ} 0 1 = cc in omega arith)
-find-gives P (d ∷ ls) i a all is =
-    elim (cases-bool (eqb (d .id) i)) [
-      | inl t ↦ let here : Some d ≡ Some a = rw t at is in let same : d ≡ a = cc in rw (← same) (all .0)
-      | inr f ↦ find-gives P ls i a (all .1) (rw f at is)
-    ]
-
-at-home : (i : ℕ) (a : Attribute) → attribute-of i ≡ Some a → At-home a
-unfolding attribute-of
-at-home i a is = find-gives At-home attributes i a homes is
-
 -- A frame that is right, of octets, and no longer than a source.
 pub record Fine (f : Laid) : Type 0 where
   pub right : Right f
@@ -153,17 +114,6 @@ all-fine (f ∷ fs) bs o l right g =
     let l₄ : length (w₃ .back) ≡ length (w₄ .front) + length (w₄ .back) = ap length (w₄ .joins) ∙ length-append (w₄ .front) (w₄ .back) in
     let l₅ : length (w₄ .front) ≡ length (f .bytes) = ap length same in
     (record { right = right .0; octets = rw same at o₄; short = omega arith }, all-fine fs (g .back) ob (omega arith) (right .1) (g .other))
-
-is-rendering : (r : Role) (f : Laid) → Fine f → Is r f → eqb (f .attribute .id) rendering-id ≡ is-begins r
-is-rendering r f fine is = at-home (f .attribute .id) (f .attribute) (fine .right .known) .0 ∙ ap is-begins is
-
-at-place : (r : Role) (f : Laid) → Fine f → Is r f → nature (f .attribute .rule) ≡ plain → has-id (f .attribute .id) (home r) ≡ true
-at-place r f fine is pl =
-    let h = at-home (f .attribute .id) (f .attribute) (fine .right .known) in
-    rw (← is) (then-has (nature (f .attribute .rule)) _ pl (h .1))
-  where
-    then-has : (n : Nature) (b : Bool) → n ≡ plain → (not (is-plain n) || b) ≡ true → b ≡ true
-    then-has n b is t = rw is at t
 
 -- Frames that may hold the attributes ls.
 abbrev Among : List Attribute → Laid → Type 0
@@ -281,50 +231,13 @@ primary-from fs all = go (first (λ e. as-primary (e .meant)) (map entry fs)) re
         let by-page : means rule.CodePage (f .bytes) ≡ Some c = ap (λ r. means r (f .bytes)) (sym (page-rule (f .attribute .rule) pg)) ∙ ec in
         rw (← same) (page-small (f .bytes) c (fine .octets) by-page)
 
--- Where attachments begin.
-part-own : (fs gs : List Laid) → All (λ f. eqb (f .attribute .id) rendering-id ≡ false) fs → message-part (map entry (fs ++ gs)) ≡ map entry fs ++ message-part (map entry gs)
-unfolding message-part
-part-own [] gs pl = refl
-part-own (f ∷ fs) gs pl = rw (pl .0, part-own fs gs (pl .1))
-
-parts-own : (fs gs : List Laid) → All (λ f. eqb (f .attribute .id) rendering-id ≡ false) fs → attachment-parts (map entry (fs ++ gs)) ≡ attachment-parts (map entry gs)
-unfolding attachment-parts
-parts-own [] gs pl = refl
-parts-own (f ∷ fs) gs pl = rw (pl .0) (parts-own fs gs (pl .1))
+among : (r : Role) (ls : List Attribute) (fs : List Laid) → ((i : ℕ) → has-id i (home r) ≡ true → has-id i ls ≡ true) → All (Is r) fs → All Fine fs → All (Among ls) fs
+among r ls [] inside is fine = tt
+among r ls (f ∷ fs) inside is fine = ((fine .0, (λ pl. inside (f .attribute .id) (at-place r f (fine .0 .right) (is .0) pl))), among r ls fs inside (is .1) (fine .1))
 
 -- An attachment whose frames are fine.
 abbrev Fine-attached : Attached → Type 0
 Fine-attached a = Begun a × All Fine (attached a)
-
-abbrev others : List Laid → Type 0
-others fs = All (λ f. eqb (f .attribute .id) rendering-id ≡ false) fs
-
-role-others : (r : Role) (fs : List Laid) → is-begins r ≡ false → All (Is r) fs → All Fine fs → others fs
-role-others r [] no′ is fine = tt
-role-others r (f ∷ fs) no′ is fine = (is-rendering r f (fine .0) (is .0) ∙ no′, role-others r fs no′ (is .1) (fine .1))
-
-no-part : (hs : List Attached) → All Fine-attached hs → message-part (map entry (joined attached hs)) ≡ []
-unfolding message-part
-no-part [] w = refl
-no-part (h ∷ hs) w = rw (is-rendering begins-attachment (h .rendering) (w .0 .1 .0) (w .0 .0 .0))
-
-parts-are : (hs : List Attached) → All Fine-attached hs → attachment-parts (map entry (joined attached hs)) ≡ map (λ h. map entry (attached h)) hs
-unfolding attachment-parts
-parts-are [] w = refl
-parts-are (h ∷ hs) w =
-    let pl = role-others of-attachment (h .rest) refl (w .0 .0 .1) (w .0 .1 .1) in
-    rw (
-      is-rendering begins-attachment (h .rendering) (w .0 .1 .0) (w .0 .0 .0),
-      part-own (h .rest) (joined attached hs) pl,
-      no-part hs (w .1),
-      append-nil (map entry (h .rest)),
-      parts-own (h .rest) (joined attached hs) pl,
-      parts-are hs (w .1),
-    )
-
-among : (r : Role) (ls : List Attribute) (fs : List Laid) → ((i : ℕ) → has-id i (home r) ≡ true → has-id i ls ≡ true) → All (Is r) fs → All Fine fs → All (Among ls) fs
-among r ls [] inside is fine = tt
-among r ls (f ∷ fs) inside is fine = ((fine .0, (λ pl. inside (f .attribute .id) (at-place r f (fine .0) (is .0) pl))), among r ls fs inside (is .1) (fine .1))
 
 abbrev of-attachments : List Attribute
 of-attachments = rendering-attribute ∷ attachment-attributes
@@ -346,60 +259,45 @@ begins-told : (h : Attached) → Fine-attached h → (c : Contents) × (first (c
 unfolding first
 begins-told h (begun, fine) =
     let f = h .rendering in
-    let here : eqb (f .attribute .id) rendering-id ≡ true = is-rendering begins-attachment f (fine .0) (begun .0) in
-    let home₂ = at-home (f .attribute .id) (f .attribute) (fine .0 .right .known) .2 in
-    let pl : nature (f .attribute .rule) ≡ plain = only (nature (f .attribute .rule)) (rw (begun .0) at home₂) in
+    let here : eqb (f .attribute .id) rendering-id ≡ true = is-rendering begins-attachment f (fine .0 .right) (begun .0) in
+    let pl : nature (f .attribute .rule) ≡ plain = rendering-plain f (fine .0 .right) (begun .0) in
     let (c, same) = told-plain (nature (f .attribute .rule)) (f .attribute .rule) (f .bytes) (f .meant) pl (fine .0 .right .admitted) in
     let rest = first (contents-under rendering-id) (map entry (h .rest)) in
     (c, ap (λ b. or-else (cond b (as-contents (f .meant)) None) rest) here ∙ ap (λ x. or-else (as-contents x) rest) same)
-  where
-    only : (n : Nature) → is-plain n ≡ true → n ≡ plain
-    only plain t = refl
-    only opening t = absurd (both-ways false refl t)
-    only page t = absurd (both-ways false refl t)
-    only rows t = absurd (both-ways false refl t)
-    only properties t = absurd (both-ways false refl t)
 
 attachments-well : (hs : List Attached) → All Fine-attached hs → All Well-attachment (map holding-of (map (λ h. map entry (attached h)) hs))
 attachments-well [] w = tt
 attachments-well (h ∷ hs) w =
     (record { holds = holding-from of-attachments (attached h) (attached-among h (w .0)); rendering = begins-told h (w .0) }, attachments-well hs (w .1))
 
-all-parts : (fs gs : List Laid) → All Fine (fs ++ gs) → All Fine fs × All Fine gs
-all-parts [] gs w = (tt, w)
-all-parts (f ∷ fs) gs w = let (a, b) = all-parts fs gs (w .1) in ((w .0, a), b)
-
 fine-attached : (hs : List Attached) → All Begun hs → All Fine (joined attached hs) → All Fine-attached hs
 fine-attached [] b w = tt
-fine-attached (h ∷ hs) b w = let (a, c) = all-parts (attached h) (joined attached hs) w in ((b .0, a), fine-attached hs (b .1) c)
+fine-attached (h ∷ hs) b w = let (a, c) = all-parts Fine (attached h) (joined attached hs) w in ((b .0, a), fine-attached hs (b .1) c)
+
+fine-right : (fs : List Laid) → All Fine fs → All Right fs
+fine-right fs all = all-weaker Fine Right (λ f fine. fine .right) fs all
 
 frames-well : (fs : List Laid) → In-order fs → All Fine fs → Well (message-of (map entry fs))
 frames-well fs o all =
     let hs = o .attachments in
-    let own = o .opening ∷ (o .page ∷ o .own) in
-    let whole : fs ≡ own ++ joined attached hs = o .laid in
-    let (fine, late) = all-parts own (joined attached hs) (rw whole at all) in
+    let own = front fs o in
+    let t : By-target fs o = by-target fs o (fine-right fs all) in
+    let (fine, late) = all-parts Fine own (joined attached hs) (rw (t .whole) at all) in
     let begun : All Fine-attached hs = fine-attached hs (o .attachments-are) late in
-    let pl : others own = (
-      is-rendering opens (o .opening) (fine .0) (o .opening-is),
-      (is-rendering names-page (o .page) (fine .1 .0) (o .page-is), role-others of-message (o .own) refl (o .own-are) (fine .1 .1)),
-    ) in
     let within : All (Among message-attributes) own = (
       among opens message-attributes (o .opening ∷ []) (λ i e. absurd (both-ways false refl e)) (o .opening-is, tt) (fine .0, tt) .0,
       (among names-page message-attributes (o .page ∷ []) (λ i e. absurd (both-ways false refl e)) (o .page-is, tt) (fine .1 .0, tt) .0, among of-message message-attributes (o .own) (λ i e. e) (o .own-are) (fine .1 .1)),
     ) in
-    let front : message-part (map entry fs) ≡ map entry own = ap (λ l. message-part (map entry l)) whole ∙ part-own own (joined attached hs) pl ∙ ap (λ l. map entry own ++ l) (no-part hs begun) ∙ append-nil (map entry own) in
-    let parts : attachment-parts (map entry fs) ≡ map (λ h. map entry (attached h)) hs = ap (λ l. attachment-parts (map entry l)) whole ∙ parts-own own (joined attached hs) pl ∙ parts-are hs begun in
     let (w₁, w₂, w₃) = rows-held message-attributes own within in
     let few : length hs ≤ attachment-limit = o .few in
     record {
       primary-small = primary-from fs all;
-      own-well = rw front (holding-from message-attributes own within);
-      rows-well = rw front w₁;
-      rows-few = rw front w₂;
-      rows-small = rw front w₃;
-      attachments-well = rw parts (attachments-well hs begun);
-      attachments-few = rw parts (omega (arith, length-map (map (λ h. map entry (attached h)) hs) holding-of, length-map hs (λ h. map entry (attached h))));
+      own-well = rw (t .own-part) (holding-from message-attributes own within);
+      rows-well = rw (t .own-part) w₁;
+      rows-few = rw (t .own-part) w₂;
+      rows-small = rw (t .own-part) w₃;
+      attachments-well = rw (t .parts) (attachments-well hs begun);
+      attachments-few = rw (t .parts) (omega (arith, length-map (map (λ h. map entry (attached h)) hs) holding-of, length-map hs (λ h. map entry (attached h))));
     }
 
 -- What a stream carries is well-formed.
@@ -410,4 +308,5 @@ stream-well xs m o short s =
     let (o₃, o₄) = octets-left (w .front) (w .back) (rw (w .joins) at o₂) in
     let l₁ : length xs ≡ length (s .bytes .front) + length (s .bytes .back) = ap length (s .bytes .joins) ∙ length-append (s .bytes .front) (s .bytes .back) in
     let l₂ : length (s .bytes .back) ≡ length (w .front) + length (w .back) = ap length (w .joins) ∙ length-append (w .front) (w .back) in
-    rw (s .tells) at (frames-well (s .frames) (s .order) (all-fine (s .frames) (w .back) o₄ (omega arith) (s .right) (w .other)))
+    let told : message-of (map entry (s .frames)) ≡ m = tells-back (s .frames) (s .order) (s .right) m (s .tells) in
+    rw told at (frames-well (s .frames) (s .order) (all-fine (s .frames) (w .back) o₄ (omega arith) (s .right) (w .other)))

@@ -33,6 +33,8 @@ use Rattle.message.proofs.Indexing.{Apart-keys, Well-list}
 use Rattle.message.proofs.Laying.{Good, Laid-as, good-laid, Well, Well-attachment, message-good}
 use Rattle.message.proofs.Telling.{message-back}
 use Rattle.message.proofs.Orders.{allowed-ordered}
+use Rattle.message.proofs.FrameReads.{entry}
+use Rattle.message.proofs.Earliest.{tells}
 use Rattle.message.proofs.Streams.{by-grammar}
 use Rattle.message.proofs.Carried.{stream-well}
 
@@ -49,12 +51,14 @@ form-stream m w =
     let l = form-laid m w in
     let bs = joined write-entry (entries-in m) in
     let key = 1 ∷ (0 ∷ []) in
+    let order = allowed-ordered (l .frames) (l .allowed) in
+    let whole : message-of (map entry (l .frames)) ≡ m = ap message-of (l .tells) ∙ message-back m w in
     record {
       frames = l .frames;
       bytes = record { front = signature; back = key ++ bs; joins = refl; one = refl; other = record { front = key; back = bs; joins = refl; one = refl; other = l .bytes } };
       right = l .right;
-      order = allowed-ordered (l .frames) (l .allowed);
-      tells = ap message-of (l .tells) ∙ message-back m w;
+      order = order;
+      tells = rw whole at (tells (l .frames) order (l .right));
     }
 
 pub form-read : (m : Message) → Well m → read (written m) ≡ Ok m

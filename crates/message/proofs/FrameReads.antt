@@ -33,11 +33,15 @@ use Rattle.frame.specs.declared.stages.Stage.the-variants as stage
 use Rattle.contents.specs.Contents.{Contents, means, primary-number}
 use Rattle.property.specs.Lists.{Property}
 use Rattle.message.specs.Reading.{Meant, version, primary, contents, list, table, Entry, Nature, plain, opening, page, rows, properties, nature, meant-as, meant-at, entries-from, entries-at, entries-of}
-use Rattle.message.specs.Grammar.{_▷_, these, any, number, run, Data-mean, Laid, frame-bytes, Right, entry}
+use Rattle.message.specs.Grammar.{_▷_, these, any, number, run, Data-mean, Laid, frame-bytes, Right}
 use Rattle.message.proofs.Pieces.{drop-behind, part-left, part-here, part-split, part-none, getD-left}
 use Rattle.message.proofs.Outcomes.{bind-ok, need-ok, need-true, given-ok, over-ok}
 use Rattle.property.proofs.Outcomes.{err-not-ok, ok-same}
 use Rattle.message.proofs.PropertyReads.{list-told, table-told}
+
+-- A frame by its id and what it means.
+abbrev pub entry : Laid → Entry
+entry f = record { id = f .attribute .id; meant = f .meant }
 
 -- What data mean.
 meant-back : (n : Nature) (r : Rule) (xs : List ℕ) (base size : ℕ) (m : Meant) → base + size ≤ length xs → Data-mean n r (part xs base size) m → meant-as n r xs base size ≡ Ok m

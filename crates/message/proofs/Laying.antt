@@ -29,12 +29,12 @@ use Rattle.property.specs.Writing.{write-list, write-table}
 use Rattle.message.specs.Reading.{Meant, version, primary, contents, list, table, Entry, Nature, plain, nature}
 use Rattle.message.specs.Messages.{Message, Holding}
 use Rattle.message.specs.Writing.{entry-data, level-in, write-frame, write-entry, found, attribute-entries, list-entries, table-entries, message-entries, attachment-entries, entries-in}
-use Rattle.message.specs.Grammar.{_▷_, these, any, number, run, Data-mean, Laid, frame-bytes, Right, entry, list-bytes, table-bytes}
+use Rattle.message.specs.Grammar.{_▷_, these, any, number, run, Data-mean, Laid, frame-bytes, Right, list-bytes, table-bytes}
 use Rattle.message.proofs.Pieces.{octets-le}
 use Rattle.message.proofs.Rewrites.{Told-by, list-turns, table-turns, table-from}
 use Rattle.message.proofs.Indexing.{Apart-keys, Well-list}
 use Rattle.message.proofs.NormalData.{page-normal, page-octets}
-use Rattle.message.proofs.FrameReads.{Allowed, id-of}
+use Rattle.message.proofs.FrameReads.{entry, Allowed, id-of}
 
 -- An entry that can be laid as a frame.
 pub record Fits (a : Attribute) (e : Entry) : Type 0 where
