@@ -1,41 +1,41 @@
 -- A message that a stream carries is well-formed.
-use Prim.Native.Nat.{ℕ, zero, suc, _+_, _-_, _*_, _^_, _<_, _≤_}
+use Prim.Native.Nat.{ℕ, _+_, _-_, _^_, _<_, _≤_}
 use mathlib.Core.Path.{_≡_, refl, ap, sym, _∙_}
-use mathlib.Core.Logic.{inl, inr, _⊎_}
-use mathlib.Core.Bool.{Bool, true, false, cond, not, _&&_, _||_}
-use mathlib.Core.List.{List, [], _∷_, _++_, map}
+use mathlib.Core.Logic.{inl, inr}
+use mathlib.Core.Bool.{Bool, true, false, cond, _||_}
+use mathlib.Core.List.{List, [], _∷_, map}
 use native.Mathlib.Omega.{arith}
 use lib.ListN.{length}
 use lib.Dec.{eqb}
 use Rattle.std.specs.declared.option.Option.{Option}
 use Rattle.std.specs.declared.option.Option.the-variants.{Some, None}
 use Rattle.std.specs.shelf.Lists.{All, joined}
-use Rattle.std.proofs.shelf.Lists.{append-assoc, append-nil, length-map, length-append, map-append}
-use Rattle.std.proofs.shelf.Elements.{all-append, all-weaker}
+use Rattle.std.proofs.shelf.Lists.{length-map, length-append}
+use Rattle.std.proofs.shelf.Elements.{all-weaker}
 use Rattle.std.proofs.shelf.Tests.{eqb-true, or-right, cases-bool, both-ways}
 use Rattle.source.specs.Bytes.{Octets}
 use Rattle.source.specs.Content.{source-limit}
-use Rattle.attribute.specs.Table.{attribute-of, attributes, find, has-id, message-attributes, attachment-attributes, rendering-attribute, rendering-id}
+use Rattle.attribute.specs.Table.{attribute-of, attributes, has-id, message-attributes, attachment-attributes, rendering-attribute, rendering-id}
 use Rattle.attribute.specs.declared.Attribute.{Attribute}
 use Rattle.attribute.specs.declared.Rule.{Rule}
 use Rattle.attribute.specs.declared.Rule.the-variants as rule
-use Rattle.frame.specs.Stages.{Role, opens, names-page, of-message, begins-attachment, of-attachment, role, attachment-limit}
-use Rattle.contents.specs.Contents.{Contents, means, normal, primary-number}
+use Rattle.frame.specs.Stages.{Role, opens, names-page, of-message, begins-attachment, of-attachment, attachment-limit}
+use Rattle.contents.specs.Contents.{Contents, means, primary-number}
 use Rattle.contents.proofs.Normal.{normal-means}
 use Rattle.contents.proofs.LittleEndian.{length-le}
-use Rattle.property.specs.Lists.{Property, row-limit, list-limit, indexed}
+use Rattle.property.specs.Lists.{Property, row-limit, indexed}
 use Rattle.property.specs.Writing.{write-list, write-table}
 use Rattle.message.specs.Reading.{Meant, version, primary, contents, list, table, Entry, Nature, plain, opening, page, rows, properties, nature}
-use Rattle.message.specs.Messages.{Message, Holding, or-else, or-default, first, as-contents, as-list, as-table, as-primary, contents-under, properties-of, rows-of, primary-of, holding-of, message-part, attachment-parts, message-of}
-use Rattle.message.specs.Grammar.{_▷_, run, Data-mean, Laid, frame-bytes, Right, Is, Attached, attached, Begun, In-order, Stream, list-bytes, table-bytes}
+use Rattle.message.specs.Messages.{Message, or-else, or-default, first, as-contents, as-list, as-table, as-primary, contents-under, properties-of, rows-of, primary-of, holding-of, message-of}
+use Rattle.message.specs.Grammar.{run, Data-mean, Laid, frame-bytes, Right, Is, Attached, attached, Begun, In-order, Stream, list-bytes, table-bytes}
 use Rattle.message.proofs.Pieces.{octets-left}
 use Rattle.message.proofs.Rewrites.{Told-by, list-turns, table-turns, table-parts, list-from}
-use Rattle.message.proofs.Indexing.{Apart-keys, Well-list, indexed-list, indexed-rows, indexed-size, table-size}
+use Rattle.message.proofs.Indexing.{Well-list, indexed-list, indexed-rows, indexed-size, table-size}
 use Rattle.message.proofs.NormalData.{normal-octets, page-small}
 use Rattle.message.proofs.FrameReads.{entry}
-use Rattle.message.proofs.Roles.{is-plain, home, is-rendering, at-place, rendering-plain, Right-attached, all-parts, front, By-target, by-target}
+use Rattle.message.proofs.Roles.{home, is-rendering, at-place, rendering-plain, all-parts, front, By-target, by-target}
 use Rattle.message.proofs.Earliest.{tells-back}
-use Rattle.message.proofs.Laying.{Meets, Known, Well-holding, Well-attachment, Well}
+use Rattle.message.proofs.Laying.{Known, Well-holding, Well-attachment, Well}
 
 -- What data told.
 told-contents : (n : Nature) (r : Rule) (ds : List ℕ) (c : Contents) → Data-mean n r ds (contents c) → (n ≡ plain) × (means r ds ≡ Some c)

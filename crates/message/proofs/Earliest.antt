@@ -1,7 +1,7 @@
 -- What the earliest frames tell is what is read of them.
 use Prim.Native.Nat.{ℕ}
 use mathlib.Core.Path.{_≡_, refl, ap, sym, _∙_, fun-ext}
-use mathlib.Core.Logic.{inl, inr, _⊎_, _↔_}
+use mathlib.Core.Logic.{inl, inr, _⊎_}
 use mathlib.Core.Bool.{Bool, true, false, cond}
 use mathlib.Core.List.{List, [], _∷_, _++_, map}
 use native.Mathlib.Omega.{arith}
@@ -10,12 +10,11 @@ use Rattle.std.specs.declared.option.Option.{Option}
 use Rattle.std.specs.declared.option.Option.the-variants.{Some, None}
 use Rattle.std.specs.shelf.Lists.{All, joined}
 use Rattle.std.proofs.shelf.Tests.{eqb-true, eqb-false, cases-bool}
-use Rattle.attribute.specs.declared.Rule.{Rule}
 use Rattle.contents.specs.Contents.{Contents, primary-number}
 use Rattle.property.specs.Lists.{Property, indexed}
 use Rattle.message.specs.Reading.{Meant, version, primary, contents, list, table, Entry, Nature, plain, opening, page, rows, properties, nature}
-use Rattle.message.specs.Messages.{Message, Holding, or-else, or-default, first, as-contents, as-list, as-table, as-primary, contents-under, properties-of, rows-of, primary-of, holding-of, message-part, attachment-parts, message-of}
-use Rattle.message.specs.Grammar.{Data-mean, Laid, Right, Attached, attached, In-order, Earliest, Told, With-id, Of-nature, Holds, Each, Tells}
+use Rattle.message.specs.Messages.{Message, Holding, or-default, first, as-contents, as-list, as-table, as-primary, contents-under, properties-of, rows-of, primary-of, holding-of, message-part, attachment-parts, message-of}
+use Rattle.message.specs.Grammar.{Data-mean, Laid, Right, Attached, attached, In-order, Told, With-id, Of-nature, Holds, Each, Tells}
 use Rattle.message.proofs.FrameReads.{entry}
 use Rattle.message.proofs.Roles.{Right-attached, front, By-target, by-target, opening-nature, page-nature}
 

@@ -1,20 +1,19 @@
 -- The roles of frames, and the entries of each target.
 use Prim.Native.Nat.{ℕ}
 use mathlib.Core.Path.{_≡_, refl, ap, sym, _∙_}
-use mathlib.Core.Logic.{inl, inr, _⊎_}
-use mathlib.Core.Bool.{Bool, true, false, cond, not, _&&_, _||_}
+use mathlib.Core.Logic.{inl, inr}
+use mathlib.Core.Bool.{Bool, true, false, not, _||_}
 use mathlib.Core.List.{List, [], _∷_, _++_, map}
 use native.Mathlib.Omega.{arith}
 use lib.Dec.{eqb}
-use Rattle.std.specs.declared.option.Option.{Option}
-use Rattle.std.specs.declared.option.Option.the-variants.{Some, None}
+use Rattle.std.specs.declared.option.Option.the-variants.{Some}
 use Rattle.std.specs.shelf.Lists.{All, joined}
 use Rattle.std.proofs.shelf.Lists.{append-nil}
 use Rattle.std.proofs.shelf.Tests.{cases-bool, both-ways}
 use Rattle.attribute.specs.Table.{attribute-of, attributes, find, has-id, message-attributes, attachment-attributes, rendering-attribute, rendering-id}
 use Rattle.attribute.specs.declared.Attribute.{Attribute}
 use Rattle.frame.specs.Stages.{Role, opens, names-page, of-message, begins-attachment, of-attachment, role}
-use Rattle.message.specs.Reading.{Entry, Nature, plain, opening, page, rows, properties, nature}
+use Rattle.message.specs.Reading.{Nature, plain, opening, page, rows, properties, nature}
 use Rattle.message.specs.Messages.{message-part, attachment-parts}
 use Rattle.message.specs.Grammar.{Laid, Right, Is, Attached, attached, Begun, In-order}
 use Rattle.message.proofs.FrameReads.{entry}

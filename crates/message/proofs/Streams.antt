@@ -1,24 +1,23 @@
 -- Streams are read exactly where the grammar tells them.
-use Prim.Native.Nat.{ℕ, zero, suc, _+_, _-_, _<_, _≤_}
+use Prim.Native.Nat.{ℕ, _+_, _-_, _≤_}
 use mathlib.Core.Path.{_≡_, refl, ap, sym, _∙_}
-use mathlib.Core.Logic.{inl, inr, _⊎_, _↔_}
-use mathlib.Core.Bool.{Bool, true, false, cond}
+use mathlib.Core.Logic.{_↔_}
+use mathlib.Core.Bool.{true, false}
 use mathlib.Core.List.{List, [], _∷_, _++_, map}
 use native.Mathlib.Omega.{arith}
 use lib.ListN.{length, take, drop}
-use lib.Dec.{leb}
-use Rattle.std.specs.declared.result.Result.the-variants.{Ok, Err}
+use Rattle.std.specs.declared.result.Result.the-variants.{Ok}
 use Rattle.std.specs.shelf.Lists.{All}
-use Rattle.std.proofs.shelf.Lists.{append-assoc, length-append, length-take-le, length-drop, take-append-drop, drop-drop}
+use Rattle.std.proofs.shelf.Lists.{length-take-le, length-drop, take-append-drop, drop-drop}
 use Rattle.std.proofs.shelf.Tests.{le-leb, leb-true, eqb-true, and-parts, both-ways}
 use Rattle.source.specs.Bytes.{part, val, same-bytes}
-use Rattle.source.specs.Outcome.{Outcome, _>>=_, _>>_, need, over}
+use Rattle.source.specs.Outcome.{_>>=_, _>>_, over}
 use Rattle.frame.specs.Frames.{signature, header}
 use Rattle.frame.specs.declared.stages.Stage.the-variants as stage
-use Rattle.message.specs.Reading.{Entry, entries-at, entries-of}
+use Rattle.message.specs.Reading.{entries-of}
 use Rattle.message.specs.Messages.{Message, message-of, read}
 use Rattle.message.specs.Sameness.{Carries}
-use Rattle.message.specs.Grammar.{_▷_, these, any, run, Laid, frame-bytes, Right, Tells, Stream}
+use Rattle.message.specs.Grammar.{run, Laid, frame-bytes, Right, Stream}
 use Rattle.message.proofs.Outcomes.{bind-ok, need-ok, over-ok}
 use Rattle.message.proofs.FrameReads.{entry, Allowed, entries-back, Told, entries-give}
 use Rattle.message.proofs.Orders.{allowed-ordered, ordered-allowed}
