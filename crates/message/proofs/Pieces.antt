@@ -6,7 +6,6 @@ use native.Mathlib.Omega.{arith}
 use native.Mathlib.Nat.{add-zero}
 use lib.ListN.{length, take, drop, getD, replicate}
 use Rattle.std.proofs.shelf.Lists.{drop-drop, drop-at, take-at, places, same-lists, getD-drop}
-use Rattle.std.proofs.shelf.Elements.{all-take, all-drop}
 use borrow.Author.Needs.{needs}
 use Rattle.source.specs.Bytes.{Octets, le, part}
 
