@@ -1,74 +1,38 @@
 -- A message that a stream carries is well-formed.
-use Prim.Native.Nat.{ℕ, zero, suc, _+_, _-_, _*_, _^_, _<_, _≤_}
+use Prim.Native.Nat.{ℕ, suc, _+_, _^_, _<_, _≤_}
 use mathlib.Core.Path.{_≡_, refl, ap, sym, _∙_}
-use mathlib.Core.Logic.{inl, inr, _⊎_}
-use mathlib.Core.Bool.{Bool, true, false, cond, not, _&&_, _||_}
-use mathlib.Core.List.{List, [], _∷_, _++_, map}
+use mathlib.Core.Logic.{inl, inr}
+use mathlib.Core.Bool.{Bool, true, false, _||_}
+use mathlib.Core.List.{List, [], _∷_, map}
 use native.Mathlib.Omega.{arith}
 use lib.ListN.{length}
 use lib.Dec.{eqb}
 use Rattle.std.specs.declared.option.Option.{Option}
 use Rattle.std.specs.declared.option.Option.the-variants.{Some, None}
 use Rattle.std.specs.shelf.Lists.{All, joined}
-use Rattle.std.proofs.shelf.Lists.{append-assoc, append-nil, length-map, length-append, map-append}
-use Rattle.std.proofs.shelf.Elements.{all-append, all-weaker}
-use Rattle.std.proofs.shelf.Tests.{eqb-true, or-right, cases-bool, both-ways}
+use Rattle.std.proofs.shelf.Lists.{length-map, length-append}
+use Rattle.std.proofs.shelf.Tests.{eqb-true, or-right, both-ways}
 use Rattle.source.specs.Bytes.{Octets}
 use Rattle.source.specs.Content.{source-limit}
-use Rattle.attribute.specs.Table.{attribute-of, attributes, find, has-id, message-attributes, attachment-attributes, rendering-attribute, rendering-id}
+use Rattle.attribute.specs.Table.{attribute-of, has-id, message-attributes, attachment-attributes, rendering-attribute, rendering-id}
 use Rattle.attribute.specs.declared.Attribute.{Attribute}
 use Rattle.attribute.specs.declared.Rule.{Rule}
 use Rattle.attribute.specs.declared.Rule.the-variants as rule
-use Rattle.frame.specs.Stages.{Role, opens, names-page, of-message, begins-attachment, of-attachment, role, attachment-limit}
-use Rattle.contents.specs.Contents.{Contents, means, normal, primary-number}
+use Rattle.frame.specs.Stages.{Role, of-message, begins-attachment, of-attachment, attachment-limit}
+use Rattle.contents.specs.Contents.{Contents, means, primary-number}
 use Rattle.contents.proofs.Normal.{normal-means}
 use Rattle.contents.proofs.LittleEndian.{length-le}
-use Rattle.property.specs.Lists.{Property, row-limit, list-limit, indexed}
+use Rattle.property.specs.Lists.{Property, row-limit, indexed}
 use Rattle.property.specs.Writing.{write-list, write-table}
-use Rattle.stream.specs.Reading.{Meant, version, primary, contents, list, table, Entry, Nature, plain, opening, page, rows, properties, nature}
-use Rattle.stream.specs.Messages.{Message, Holding, or-else, or-default, first, as-contents, as-list, as-table, as-primary, contents-under, properties-of, rows-of, primary-of, holding-of, message-part, attachment-parts, message-of}
-use Rattle.message.specs.Grammar.{_▷_, run, Data-mean, Laid, frame-bytes, Right, entry, Is, Attached, attached, Begun, In-order, Stream, list-bytes, table-bytes}
+use Rattle.stream.specs.Reading.{primary, contents, list, table, Nature, plain, page, rows, properties, nature}
+use Rattle.stream.specs.Messages.{Message, Holding, or-default}
+use Rattle.message.specs.Grammar.{run, Data-mean, Laid, frame-bytes, Right, Is, Attached, attached, Begun, In-order, Earliest, Told, With-id, Of-nature, Holds, Each, Tells, Stream, list-bytes, table-bytes}
 use Rattle.message.proofs.Pieces.{octets-left}
 use Rattle.message.proofs.Rewrites.{Told-by, list-turns, table-turns, table-parts, list-from}
-use Rattle.message.proofs.Indexing.{Apart-keys, Well-list, indexed-list, indexed-rows, indexed-size, table-size}
+use Rattle.message.proofs.Indexing.{Well-list, indexed-list, indexed-rows, indexed-size, table-size}
 use Rattle.message.proofs.NormalData.{normal-octets, page-small}
-use Rattle.message.proofs.Laying.{Meets, Known, Well-holding, Well-attachment, Well}
-
--- What data told.
-told-contents : (n : Nature) (r : Rule) (ds : List ℕ) (c : Contents) → Data-mean n r ds (contents c) → (n ≡ plain) × (means r ds ≡ Some c)
-told-contents plain r ds c (d, is, same) = (refl, cc)
-told-contents opening r ds c (d, is, same) = absurd (let z : _≡_ {A = ℕ} 0 1 = cc in omega arith)
-told-contents page r ds c (d, is, same) = absurd (let z : _≡_ {A = ℕ} 0 1 = cc in omega arith)
-told-contents rows r ds c (d, is, same) = absurd (let z : _≡_ {A = ℕ} 0 1 = cc in omega arith)
-told-contents properties r ds c (d, is, same) = absurd (let z : _≡_ {A = ℕ} 0 1 = cc in omega arith)
-
-told-primary : (n : Nature) (r : Rule) (ds : List ℕ) (k : ℕ) → Data-mean n r ds (primary k) → (n ≡ page) × ((c : Contents) × (means r ds ≡ Some c) × (primary-number c ≡ k))
-told-primary plain r ds k (d, is, same) = absurd (let z : _≡_ {A = ℕ} 0 1 = cc in omega arith)
-told-primary opening r ds k (d, is, same) = absurd (let z : _≡_ {A = ℕ} 0 1 = cc in omega arith)
-told-primary page r ds k (d, is, same) = (refl, (d, is, cc))
-told-primary rows r ds k (d, is, same) = absurd (let z : _≡_ {A = ℕ} 0 1 = cc in omega arith)
-told-primary properties r ds k (d, is, same) = absurd (let z : _≡_ {A = ℕ} 0 1 = cc in omega arith)
-
-told-list : (n : Nature) (r : Rule) (ds : List ℕ) (ps : List Property) → Data-mean n r ds (list ps) → list-bytes ps ds
-told-list plain r ds ps (d, is, same) = absurd (let z : _≡_ {A = ℕ} 0 1 = cc in omega arith)
-told-list opening r ds ps (d, is, same) = absurd (let z : _≡_ {A = ℕ} 0 1 = cc in omega arith)
-told-list page r ds ps (d, is, same) = absurd (let z : _≡_ {A = ℕ} 0 1 = cc in omega arith)
-told-list rows r ds ps (d, is, same) = absurd (let z : _≡_ {A = ℕ} 0 1 = cc in omega arith)
-told-list properties r ds ps (d, is, same) = let e : d ≡ ps = cc in rw e at is
-
-told-table : (n : Nature) (r : Rule) (ds : List ℕ) (rs : List (List Property)) → Data-mean n r ds (table rs) → table-bytes rs ds
-told-table plain r ds rs (d, is, same) = absurd (let z : _≡_ {A = ℕ} 0 1 = cc in omega arith)
-told-table opening r ds rs (d, is, same) = absurd (let z : _≡_ {A = ℕ} 0 1 = cc in omega arith)
-told-table page r ds rs (d, is, same) = absurd (let z : _≡_ {A = ℕ} 0 1 = cc in omega arith)
-told-table rows r ds rs (d, is, same) = let e : d ≡ rs = cc in rw e at is
-told-table properties r ds rs (d, is, same) = absurd (let z : _≡_ {A = ℕ} 0 1 = cc in omega arith)
-
-told-plain : (n : Nature) (r : Rule) (ds : List ℕ) (m : Meant) → n ≡ plain → Data-mean n r ds m → (c : Contents) × (m ≡ contents c)
-told-plain plain r ds m e (c, is, same) = (c, same)
-told-plain opening r ds m e v = absurd (let z : _≡_ {A = ℕ} 0 1 = cc in omega arith)
-told-plain page r ds m e v = absurd (let z : _≡_ {A = ℕ} 0 1 = cc in omega arith)
-told-plain rows r ds m e v = absurd (let z : _≡_ {A = ℕ} 0 1 = cc in omega arith)
-told-plain properties r ds m e v = absurd (let z : _≡_ {A = ℕ} 0 1 = cc in omega arith)
+use Rattle.message.proofs.Roles.{home, is-rendering, at-place, rendering-plain, page-nature, all-parts}
+use Rattle.message.proofs.Laying.{Meets, Well-holding, Well-attachment, Well}
 
 page-rule : (r : Rule) → nature r ≡ page → r ≡ rule.CodePage
 page-rule rule.Text n = absurd (let z : _≡_ {A = ℕ} 0 1 = cc n in omega arith)
@@ -84,48 +48,6 @@ page-rule rule.Version n = absurd (let z : _≡_ {A = ℕ} 0 1 = cc n in omega a
 page-rule rule.CodePage n = refl
 page-rule rule.Recipients n = absurd (let z : _≡_ {A = ℕ} 0 1 = cc n in omega arith)
 page-rule rule.Properties n = absurd (let z : _≡_ {A = ℕ} 0 1 = cc n in omega arith)
-
--- Where attributes may stand.
-abbrev is-plain : Nature → Bool
-is-plain plain = true
-is-plain opening = false
-is-plain page = false
-is-plain rows = false
-is-plain properties = false
-
-abbrev is-begins : Role → Bool
-is-begins begins-attachment = true
-is-begins of-message = false
-is-begins of-attachment = false
-is-begins opens = false
-is-begins names-page = false
-
-abbrev home : Role → List Attribute
-home of-message = message-attributes
-home of-attachment = attachment-attributes
-home begins-attachment = rendering-attribute ∷ []
-home opens = []
-home names-page = []
-
-abbrev At-home : Attribute → Type 0
-At-home a =
-    (eqb (a .id) rendering-id ≡ is-begins (role a)) × ((not (is-plain (nature (a .rule))) || has-id (a .id) (home (role a))) ≡ true)
-    × ((not (is-begins (role a)) || is-plain (nature (a .rule))) ≡ true)
-
-homes : All At-home attributes
-homes = ((refl, refl, refl), ((refl, refl, refl), ((refl, refl, refl), ((refl, refl, refl), ((refl, refl, refl), ((refl, refl, refl), ((refl, refl, refl), ((refl, refl, refl), ((refl, refl, refl), ((refl, refl, refl), ((refl, refl, refl), ((refl, refl, refl), ((refl, refl, refl), ((refl, refl, refl), ((refl, refl, refl), ((refl, refl, refl), ((refl, refl, refl), ((refl, refl, refl), ((refl, refl, refl), ((refl, refl, refl), ((refl, refl, refl), ((refl, refl, refl), ((refl, refl, refl), ((refl, refl, refl), ((refl, refl, refl), ((refl, refl, refl), ((refl, refl, refl), ((refl, refl, refl), ((refl, refl, refl), ((refl, refl, refl), tt))))))))))))))))))))))))))))))
-
-find-gives : (P : Attribute → Type 0) (ls : List Attribute) (i : ℕ) (a : Attribute) → All P ls → find ls i ≡ Some a → P a
-find-gives P [] i a all is = absurd (let z : _≡_ {A = ℕ} 0 1 = cc in omega arith)
-find-gives P (d ∷ ls) i a all is =
-    elim (cases-bool (eqb (d .id) i)) [
-      | inl t ↦ let here : Some d ≡ Some a = rw t at is in let same : d ≡ a = cc in rw (← same) (all .0)
-      | inr f ↦ find-gives P ls i a (all .1) (rw f at is)
-    ]
-
-at-home : (i : ℕ) (a : Attribute) → attribute-of i ≡ Some a → At-home a
-unfolding attribute-of
-at-home i a is = find-gives At-home attributes i a homes is
 
 -- A frame that is right, of octets, and no longer than a source.
 pub record Fine (f : Laid) : Type 0 where
@@ -154,64 +76,48 @@ all-fine (f ∷ fs) bs o l right g =
     let l₅ : length (w₄ .front) ≡ length (f .bytes) = ap length same in
     (record { right = right .0; octets = rw same at o₄; short = omega arith }, all-fine fs (g .back) ob (omega arith) (right .1) (g .other))
 
-is-rendering : (r : Role) (f : Laid) → Fine f → Is r f → eqb (f .attribute .id) rendering-id ≡ is-begins r
-is-rendering r f fine is = at-home (f .attribute .id) (f .attribute) (fine .right .known) .0 ∙ ap is-begins is
+-- What data of a nature mean.
+by-nature : (f : Laid) (n : Nature) → Right f → nature (f .attribute .rule) ≡ n → Data-mean n (f .attribute .rule) (f .bytes) (f .meant)
+by-nature f n right e = rw e at (right .admitted)
 
-at-place : (r : Role) (f : Laid) → Fine f → Is r f → nature (f .attribute .rule) ≡ plain → has-id (f .attribute .id) (home r) ≡ true
-at-place r f fine is pl =
-    let h = at-home (f .attribute .id) (f .attribute) (fine .right .known) in
-    rw (← is) (then-has (nature (f .attribute .rule)) _ pl (h .1))
-  where
-    then-has : (n : Nature) (b : Bool) → n ≡ plain → (not (is-plain n) || b) ≡ true → b ≡ true
-    then-has n b is t = rw is at t
+told-contents : (f : Laid) (c : Contents) → Right f → nature (f .attribute .rule) ≡ plain → f .meant ≡ contents c → means (f .attribute .rule) (f .bytes) ≡ Some c
+told-contents f c right e m = let (d, is, same) = by-nature f plain right e in let both : contents d ≡ contents c = sym same ∙ m in cc
+
+told-list : (f : Laid) (ps : List Property) → Right f → nature (f .attribute .rule) ≡ properties → f .meant ≡ list ps → list-bytes ps (f .bytes)
+told-list f ps right e m =
+    let (qs, is, same) = by-nature f properties right e in
+    let both : list qs ≡ list ps = sym same ∙ m in
+    let equal : qs ≡ ps = cc in
+    rw equal at is
+
+told-table : (f : Laid) (rs : List (List Property)) → Right f → nature (f .attribute .rule) ≡ rows → f .meant ≡ table rs → table-bytes rs (f .bytes)
+told-table f rs right e m =
+    let (qs, is, same) = by-nature f rows right e in
+    let both : table qs ≡ table rs = sym same ∙ m in
+    let equal : qs ≡ rs = cc in
+    rw equal at is
+
+told-primary : (f : Laid) (n : ℕ) → Fine f → nature (f .attribute .rule) ≡ page → f .meant ≡ primary n → n < 256 ^ 4
+told-primary f n fine e m =
+    let (c, is, same) = by-nature f page (fine .right) e in
+    let both : primary (primary-number c) ≡ primary n = sym same ∙ m in
+    let equal : primary-number c ≡ n = cc in
+    let by-page : means rule.CodePage (f .bytes) ≡ Some c = ap (λ r. means r (f .bytes)) (sym (page-rule (f .attribute .rule) e)) ∙ is in
+    rw (← equal) (page-small (f .bytes) c (fine .octets) by-page)
+
+-- The earliest of a kind is of the kind, and is one of the frames.
+earliest-is : (P Q : Laid → Type 0) (fs : List Laid) (f : Laid) → All Q fs → Earliest P fs f → P f × Q f
+earliest-is P Q [] f all e = absurd e
+earliest-is P Q (g ∷ fs) f all (inl (p, same)) = rw same (p, all .0)
+earliest-is P Q (g ∷ fs) f all (inr (no′, e)) = earliest-is P Q fs f (all .1) e
 
 -- Frames that may hold the attributes ls.
 abbrev Among : List Attribute → Laid → Type 0
 Among ls f = Fine f × (nature (f .attribute .rule) ≡ plain → has-id (f .attribute .id) ls ≡ true)
 
-first-gives : {A : Type 0} (P : Laid → Type 0) (g : Entry → Option A) (fs : List Laid) (a : A) → All P fs → first g (map entry fs) ≡ Some a → (f : Laid) × P f × (g (entry f) ≡ Some a)
-unfolding first
-first-gives P g [] a all e = absurd (let z : _≡_ {A = ℕ} 0 1 = cc in omega arith)
-first-gives {A = A} P g (f ∷ fs) a all e = go (g (entry f)) refl (λ is. first-gives P g fs a (all .1) is)
-  where
-    go : (o : Option A) → g (entry f) ≡ o → (first g (map entry fs) ≡ Some a → (f : Laid) × P f × (g (entry f) ≡ Some a)) → (f : Laid) × P f × (g (entry f) ≡ Some a)
-    go (Some b) is ih = let same : or-else (Some b) (first g (map entry fs)) ≡ Some a = rw is at e in (f, all .0, is ∙ same)
-    go None is ih = ih (rw is at e)
-
-as-contents-some : (m : Meant) (c : Contents) → as-contents m ≡ Some c → m ≡ contents c
-as-contents-some (contents d) c e = cc
-as-contents-some version c e = absurd (let z : _≡_ {A = ℕ} 0 1 = cc in omega arith)
-as-contents-some (primary n) c e = absurd (let z : _≡_ {A = ℕ} 0 1 = cc in omega arith)
-as-contents-some (list ps) c e = absurd (let z : _≡_ {A = ℕ} 0 1 = cc in omega arith)
-as-contents-some (table rs) c e = absurd (let z : _≡_ {A = ℕ} 0 1 = cc in omega arith)
-
-as-list-some : (m : Meant) (ps : List Property) → as-list m ≡ Some ps → m ≡ list ps
-as-list-some (contents d) c e = absurd (let z : _≡_ {A = ℕ} 0 1 = cc in omega arith)
-as-list-some version c e = absurd (let z : _≡_ {A = ℕ} 0 1 = cc in omega arith)
-as-list-some (primary n) c e = absurd (let z : _≡_ {A = ℕ} 0 1 = cc in omega arith)
-as-list-some (list ps) c e = cc
-as-list-some (table rs) c e = absurd (let z : _≡_ {A = ℕ} 0 1 = cc in omega arith)
-
-as-table-some : (m : Meant) (rs : List (List Property)) → as-table m ≡ Some rs → m ≡ table rs
-as-table-some (contents d) c e = absurd (let z : _≡_ {A = ℕ} 0 1 = cc in omega arith)
-as-table-some version c e = absurd (let z : _≡_ {A = ℕ} 0 1 = cc in omega arith)
-as-table-some (primary n) c e = absurd (let z : _≡_ {A = ℕ} 0 1 = cc in omega arith)
-as-table-some (list ps) c e = absurd (let z : _≡_ {A = ℕ} 0 1 = cc in omega arith)
-as-table-some (table rs) c e = cc
-
-as-primary-some : (m : Meant) (n : ℕ) → as-primary m ≡ Some n → m ≡ primary n
-as-primary-some (contents d) c e = absurd (let z : _≡_ {A = ℕ} 0 1 = cc in omega arith)
-as-primary-some version c e = absurd (let z : _≡_ {A = ℕ} 0 1 = cc in omega arith)
-as-primary-some (primary n) c e = cc
-as-primary-some (list ps) c e = absurd (let z : _≡_ {A = ℕ} 0 1 = cc in omega arith)
-as-primary-some (table rs) c e = absurd (let z : _≡_ {A = ℕ} 0 1 = cc in omega arith)
-
-under-some : (i : ℕ) (e : Entry) (c : Contents) → contents-under i e ≡ Some c → (e .id ≡ i) × (e .meant ≡ contents c)
-under-some i e c q =
-    elim (cases-bool (eqb (e .id) i)) [
-      | inl t ↦ (eqb-true (e .id) i t, as-contents-some (e .meant) c (rw t at q))
-      | inr no′ ↦ absurd (let none : None ≡ Some c = rw no′ at q in let z : _≡_ {A = ℕ} 0 1 = cc in omega arith)
-    ]
+among : (r : Role) (ls : List Attribute) (fs : List Laid) → ((i : ℕ) → has-id i (home r) ≡ true → has-id i ls ≡ true) → All (Is r) fs → All Fine fs → All (Among ls) fs
+among r ls [] inside is fine = tt
+among r ls (f ∷ fs) inside is fine = ((fine .0, (λ pl. inside (f .attribute .id) (at-place r f (fine .0 .right) (is .0) pl))), among r ls fs inside (is .1) (fine .1))
 
 nothing : length (write-list []) < 0x80000000
 unfolding write-list
@@ -221,193 +127,111 @@ nothing-rows : length (write-table []) < 0x80000000
 unfolding write-table
 nothing-rows = simp (length-append, length-le) (omega arith)
 
-module _ (ls : List Attribute) where
-  known-from : (fs : List Laid) → All (Among ls) fs → Known ls (λ i. first (contents-under i) (map entry fs))
-  known-from fs all i c e =
-      let (f, (fine, has), g) = first-gives (Among ls) (contents-under i) fs c all e in
-      let (same, tells) = under-some i (entry f) c g in
-      let (pl, is) = told-contents (nature (f .attribute .rule)) (f .attribute .rule) (f .bytes) c (rw tells at (fine .right .admitted)) in
+empty : Told-by list-bytes []
+empty = list-from [] (omega arith) tt
+
+module _ (ls : List Attribute) (fs : List Laid) (all : All (Among ls) fs) where
+  contents-known : (i : ℕ) (c : Contents) → Told (With-id i) contents fs (Some c) → (a : Attribute) × (attribute-of i ≡ Some a) × (has-id i ls ≡ true) × Meets a c
+  contents-known i c (f, e, m) =
+      let ((id, pl), (fine, has)) = earliest-is (With-id i) (Among ls) fs f all e in
+      let is : means (f .attribute .rule) (f .bytes) ≡ Some c = told-contents f c (fine .right) pl m in
       let short : length (f .bytes) ≤ source-limit = fine .short in
-      let (again, long) = normal-means (f .attribute .rule) (f .bytes) c (fine .octets) is in (
+      let (again, long) = normal-means (f .attribute .rule) (f .bytes) c (fine .octets) is in
+      (
         f .attribute,
-        ap attribute-of (sym same) ∙ fine .right .known,
-        ap (λ j. has-id j ls) (sym same) ∙ has pl,
+        ap attribute-of (sym id) ∙ fine .right .known,
+        ap (λ j. has-id j ls) (sym id) ∙ has pl,
         record { again = again; small = omega arith; octets = normal-octets (f .attribute .rule) (f .bytes) c (fine .octets) is },
       )
 
-  list-held : (fs : List Laid) → All (Among ls) fs → Well-list (properties-of (map entry fs)) × (length (write-list (properties-of (map entry fs))) < 0x80000000)
-  unfolding properties-of
-  list-held fs all = go (first (λ e. as-list (e .meant)) (map entry fs)) refl
-    where
-      empty : Told-by list-bytes []
-      empty = list-from [] (omega arith) tt
+  list-well : (o : Option (List Property)) → Told (Of-nature properties) list fs o → Well-list (indexed (or-default o [])) × (length (write-list (indexed (or-default o []))) < 0x80000000)
+  list-well None w = ((empty, tt), nothing)
+  list-well (Some ps) (f, e, m) =
+      let (n, (fine, has)) = earliest-is (Of-nature properties) (Among ls) fs f all e in
+      let w : list-bytes ps (f .bytes) = told-list f ps (fine .right) n m in
+      let (q, ow, lw) = list-turns ps (f .bytes) (fine .octets) w in
+      let short : length (f .bytes) ≤ source-limit = fine .short in
+      (indexed-list ps (f .bytes, fine .octets, w), omega (arith, indexed-size ps))
 
-      go : (o : Option (List Property)) → first (λ e. as-list (e .meant)) (map entry fs) ≡ o → Well-list (indexed (or-default o [])) × (length (write-list (indexed (or-default o []))) < 0x80000000)
-      go None is = ((empty, tt), nothing)
-      go (Some ps) is =
-          let (f, (fine, has), g) = first-gives (Among ls) (λ e. as-list (e .meant)) fs ps all is in
-          let w : list-bytes ps (f .bytes) = told-list (nature (f .attribute .rule)) (f .attribute .rule) (f .bytes) ps (rw (as-list-some (f .meant) ps g) at (fine .right .admitted)) in
-          let (q, ow, lw) = list-turns ps (f .bytes) (fine .octets) w in
-          let short : length (f .bytes) ≤ source-limit = fine .short in
-          (indexed-list ps (f .bytes, fine .octets, w), omega (arith, indexed-size ps))
+  rows-well : (o : Option (List (List Property))) → Told (Of-nature rows) table fs o →
+      All Well-list (map indexed (or-default o [])) × (length (map indexed (or-default o [])) ≤ row-limit) × (length (write-table (map indexed (or-default o []))) < 0x80000000)
+  rows-well None w = (tt, omega arith, nothing-rows)
+  rows-well (Some rs) (f, e, m) =
+      let (n, (fine, has)) = earliest-is (Of-nature rows) (Among ls) fs f all e in
+      let w : table-bytes rs (f .bytes) = told-table f rs (fine .right) n m in
+      let (q, ow, lw) = table-turns rs (f .bytes) (fine .octets) w in
+      let (parts, few) = table-parts rs (f .bytes, fine .octets, w) in
+      let short : length (f .bytes) ≤ source-limit = fine .short in
+      (indexed-rows rs parts, omega (arith, length-map rs indexed), omega (arith, table-size rs))
 
-  rows-held : (fs : List Laid) → All (Among ls) fs → All Well-list (rows-of (map entry fs)) × (length (rows-of (map entry fs)) ≤ row-limit) × (length (write-table (rows-of (map entry fs))) < 0x80000000)
-  unfolding rows-of
-  rows-held fs all = go (first (λ e. as-table (e .meant)) (map entry fs)) refl
-    where
-      go : (o : Option (List (List Property))) → first (λ e. as-table (e .meant)) (map entry fs) ≡ o →
-          All Well-list (map indexed (or-default o [])) × (length (map indexed (or-default o [])) ≤ row-limit) × (length (write-table (map indexed (or-default o []))) < 0x80000000)
-      go None is = (tt, omega arith, nothing-rows)
-      go (Some rs) is =
-          let (f, (fine, has), g) = first-gives (Among ls) (λ e. as-table (e .meant)) fs rs all is in
-          let w : table-bytes rs (f .bytes) = told-table (nature (f .attribute .rule)) (f .attribute .rule) (f .bytes) rs (rw (as-table-some (f .meant) rs g) at (fine .right .admitted)) in
-          let (q, ow, lw) = table-turns rs (f .bytes) (fine .octets) w in
-          let (parts, few) = table-parts rs (f .bytes, fine .octets, w) in
-          let short : length (f .bytes) ≤ source-limit = fine .short in
-          (indexed-rows rs parts, omega (arith, length-map rs indexed), omega (arith, table-size rs))
-
-  holding-from : (fs : List Laid) → All (Among ls) fs → Well-holding ls (holding-of (map entry fs))
-  holding-from fs all = let (w, n) = list-held fs all in record { known = known-from fs all; list-well = w; list-small = n }
-
-primary-from : (fs : List Laid) → All Fine fs → primary-of (map entry fs) < 256 ^ 4
-unfolding primary-of
-primary-from fs all = go (first (λ e. as-primary (e .meant)) (map entry fs)) refl
-  where
-    go : (o : Option ℕ) → first (λ e. as-primary (e .meant)) (map entry fs) ≡ o → or-default o 0 < 256 ^ 4
-    go None is = omega arith
-    go (Some n) is =
-        let (f, fine, g) = first-gives Fine (λ e. as-primary (e .meant)) fs n all is in
-        let (pg, (c, ec, same)) = told-primary (nature (f .attribute .rule)) (f .attribute .rule) (f .bytes) n (rw (as-primary-some (f .meant) n g) at (fine .right .admitted)) in
-        let by-page : means rule.CodePage (f .bytes) ≡ Some c = ap (λ r. means r (f .bytes)) (sym (page-rule (f .attribute .rule) pg)) ∙ ec in
-        rw (← same) (page-small (f .bytes) c (fine .octets) by-page)
-
--- Where attachments begin.
-part-own : (fs gs : List Laid) → All (λ f. eqb (f .attribute .id) rendering-id ≡ false) fs → message-part (map entry (fs ++ gs)) ≡ map entry fs ++ message-part (map entry gs)
-unfolding message-part
-part-own [] gs pl = refl
-part-own (f ∷ fs) gs pl = rw (pl .0, part-own fs gs (pl .1))
-
-parts-own : (fs gs : List Laid) → All (λ f. eqb (f .attribute .id) rendering-id ≡ false) fs → attachment-parts (map entry (fs ++ gs)) ≡ attachment-parts (map entry gs)
-unfolding attachment-parts
-parts-own [] gs pl = refl
-parts-own (f ∷ fs) gs pl = rw (pl .0) (parts-own fs gs (pl .1))
-
--- An attachment whose frames are fine.
-abbrev Fine-attached : Attached → Type 0
-Fine-attached a = Begun a × All Fine (attached a)
-
-abbrev others : List Laid → Type 0
-others fs = All (λ f. eqb (f .attribute .id) rendering-id ≡ false) fs
-
-role-others : (r : Role) (fs : List Laid) → is-begins r ≡ false → All (Is r) fs → All Fine fs → others fs
-role-others r [] no′ is fine = tt
-role-others r (f ∷ fs) no′ is fine = (is-rendering r f (fine .0) (is .0) ∙ no′, role-others r fs no′ (is .1) (fine .1))
-
-no-part : (hs : List Attached) → All Fine-attached hs → message-part (map entry (joined attached hs)) ≡ []
-unfolding message-part
-no-part [] w = refl
-no-part (h ∷ hs) w = rw (is-rendering begins-attachment (h .rendering) (w .0 .1 .0) (w .0 .0 .0))
-
-parts-are : (hs : List Attached) → All Fine-attached hs → attachment-parts (map entry (joined attached hs)) ≡ map (λ h. map entry (attached h)) hs
-unfolding attachment-parts
-parts-are [] w = refl
-parts-are (h ∷ hs) w =
-    let pl = role-others of-attachment (h .rest) refl (w .0 .0 .1) (w .0 .1 .1) in
-    rw (
-      is-rendering begins-attachment (h .rendering) (w .0 .1 .0) (w .0 .0 .0),
-      part-own (h .rest) (joined attached hs) pl,
-      no-part hs (w .1),
-      append-nil (map entry (h .rest)),
-      parts-own (h .rest) (joined attached hs) pl,
-      parts-are hs (w .1),
-    )
-
-among : (r : Role) (ls : List Attribute) (fs : List Laid) → ((i : ℕ) → has-id i (home r) ≡ true → has-id i ls ≡ true) → All (Is r) fs → All Fine fs → All (Among ls) fs
-among r ls [] inside is fine = tt
-among r ls (f ∷ fs) inside is fine = ((fine .0, (λ pl. inside (f .attribute .id) (at-place r f (fine .0) (is .0) pl))), among r ls fs inside (is .1) (fine .1))
+  holding-well : (h : Holding) → Holds fs h → Well-holding ls h
+  holding-well h w =
+      let (well, small) = list-well (w .listed) (w .listed-told) in
+      record { known = λ i c e. contents-known i c (rw e at (w .by-id i)); list-well = rw (w .properties-are) well; list-small = rw (w .properties-are) small }
 
 abbrev of-attachments : List Attribute
 of-attachments = rendering-attribute ∷ attachment-attributes
 
-attached-among : (h : Attached) → Fine-attached h → All (Among of-attachments) (attached h)
-attached-among h (begun, fine) = (
-  among begins-attachment of-attachments (h .rendering ∷ []) (λ i e. one-of i e) (begun .0, tt) (fine .0, tt) .0,
+attached-among : (h : Attached) → Begun h → All Fine (attached h) → All (Among of-attachments) (attached h)
+attached-among h begun fine = (
+  among begins-attachment of-attachments (h .rendering ∷ []) (λ i e. one-of (eqb rendering-id i) (has-id i attachment-attributes) e) (begun .0, tt) (fine .0, tt) .0,
   among of-attachment of-attachments (h .rest) (λ i e. or-right (eqb rendering-id i) _ e) (begun .1) (fine .1),
 )
   where
-    one-of : (i : ℕ) → has-id i (rendering-attribute ∷ []) ≡ true → has-id i of-attachments ≡ true
-    one-of i e = go (eqb rendering-id i) (has-id i attachment-attributes) e
-      where
-        go : (a b : Bool) → (a || false) ≡ true → (a || b) ≡ true
-        go true b e = refl
-        go false b e = absurd (both-ways false refl e)
+    one-of : (a b : Bool) → (a || false) ≡ true → (a || b) ≡ true
+    one-of true b e = refl
+    one-of false b e = absurd (both-ways false refl e)
 
-begins-told : (h : Attached) → Fine-attached h → (c : Contents) × (first (contents-under rendering-id) (map entry (attached h)) ≡ Some c)
-unfolding first
-begins-told h (begun, fine) =
+-- An attachment has a rendering, since a frame of it begins it.
+rendering-told : (h : Attached) → Begun h → All Fine (attached h) → (o : Option Contents) → Told (With-id rendering-id) contents (attached h) o → (c : Contents) × (o ≡ Some c)
+rendering-told h begun fine (Some c) w = (c, refl)
+rendering-told h begun fine None w =
     let f = h .rendering in
-    let here : eqb (f .attribute .id) rendering-id ≡ true = is-rendering begins-attachment f (fine .0) (begun .0) in
-    let home₂ = at-home (f .attribute .id) (f .attribute) (fine .0 .right .known) .2 in
-    let pl : nature (f .attribute .rule) ≡ plain = only (nature (f .attribute .rule)) (rw (begun .0) at home₂) in
-    let (c, same) = told-plain (nature (f .attribute .rule)) (f .attribute .rule) (f .bytes) (f .meant) pl (fine .0 .right .admitted) in
-    let rest = first (contents-under rendering-id) (map entry (h .rest)) in
-    (c, ap (λ b. or-else (cond b (as-contents (f .meant)) None) rest) here ∙ ap (λ x. or-else (as-contents x) rest) same)
-  where
-    only : (n : Nature) → is-plain n ≡ true → n ≡ plain
-    only plain t = refl
-    only opening t = absurd (both-ways false refl t)
-    only page t = absurd (both-ways false refl t)
-    only rows t = absurd (both-ways false refl t)
-    only properties t = absurd (both-ways false refl t)
+    let right : Right f = fine .0 .right in
+    absurd (w .0 (eqb-true _ _ (is-rendering begins-attachment f right (begun .0)), rendering-plain f right (begun .0)))
 
-attachments-well : (hs : List Attached) → All Fine-attached hs → All Well-attachment (map holding-of (map (λ h. map entry (attached h)) hs))
-attachments-well [] w = tt
-attachments-well (h ∷ hs) w =
-    (record { holds = holding-from of-attachments (attached h) (attached-among h (w .0)); rendering = begins-told h (w .0) }, attachments-well hs (w .1))
+attachments-well : (ls : List Attached) (hs : List Holding) → All Begun ls → All Fine (joined attached ls) → Each (λ a h. Holds (attached a) h) ls hs →
+    All Well-attachment hs × (length hs ≡ length ls)
+attachments-well [] [] begun fine w = (tt, refl)
+attachments-well [] (h ∷ hs) begun fine w = absurd w
+attachments-well (a ∷ ls) [] begun fine w = absurd w
+attachments-well (a ∷ ls) (h ∷ hs) begun fine w =
+    let (here, later) = all-parts Fine (attached a) (joined attached ls) fine in
+    let (more, long) = attachments-well ls hs (begun .1) later (w .1) in
+    (
+      (
+        record {
+          holds = holding-well of-attachments (attached a) (attached-among a (begun .0) here) h (w .0);
+          rendering = rendering-told a (begun .0) here (h .attributes rendering-id) (w .0 .by-id rendering-id);
+        },
+        more,
+      ),
+      ap suc long,
+    )
 
-all-parts : (fs gs : List Laid) → All Fine (fs ++ gs) → All Fine fs × All Fine gs
-all-parts [] gs w = (tt, w)
-all-parts (f ∷ fs) gs w = let (a, b) = all-parts fs gs (w .1) in ((w .0, a), b)
-
-fine-attached : (hs : List Attached) → All Begun hs → All Fine (joined attached hs) → All Fine-attached hs
-fine-attached [] b w = tt
-fine-attached (h ∷ hs) b w = let (a, c) = all-parts (attached h) (joined attached hs) w in ((b .0, a), fine-attached hs (b .1) c)
-
-frames-well : (fs : List Laid) → In-order fs → All Fine fs → Well (message-of (map entry fs))
-frames-well fs o all =
-    let hs = o .attachments in
+frames-well : (fs : List Laid) (o : In-order fs) (m : Message) → All Fine fs → Tells fs o m → Well m
+frames-well fs o m all t =
     let own = o .opening ∷ (o .page ∷ o .own) in
-    let whole : fs ≡ own ++ joined attached hs = o .laid in
-    let (fine, late) = all-parts own (joined attached hs) (rw whole at all) in
-    let begun : All Fine-attached hs = fine-attached hs (o .attachments-are) late in
-    let pl : others own = (
-      is-rendering opens (o .opening) (fine .0) (o .opening-is),
-      (is-rendering names-page (o .page) (fine .1 .0) (o .page-is), role-others of-message (o .own) refl (o .own-are) (fine .1 .1)),
-    ) in
-    let within : All (Among message-attributes) own = (
-      among opens message-attributes (o .opening ∷ []) (λ i e. absurd (both-ways false refl e)) (o .opening-is, tt) (fine .0, tt) .0,
-      (among names-page message-attributes (o .page ∷ []) (λ i e. absurd (both-ways false refl e)) (o .page-is, tt) (fine .1 .0, tt) .0, among of-message message-attributes (o .own) (λ i e. e) (o .own-are) (fine .1 .1)),
-    ) in
-    let front : message-part (map entry fs) ≡ map entry own = ap (λ l. message-part (map entry l)) whole ∙ part-own own (joined attached hs) pl ∙ ap (λ l. map entry own ++ l) (no-part hs begun) ∙ append-nil (map entry own) in
-    let parts : attachment-parts (map entry fs) ≡ map (λ h. map entry (attached h)) hs = ap (λ l. attachment-parts (map entry l)) whole ∙ parts-own own (joined attached hs) pl ∙ parts-are hs begun in
-    let (w₁, w₂, w₃) = rows-held message-attributes own within in
-    let few : length hs ≤ attachment-limit = o .few in
+    let (fine, late) = all-parts Fine own (joined attached (o .attachments)) (rw (o .laid) at all) in
+    let within : All (Among message-attributes) (o .own) = among of-message message-attributes (o .own) (λ i e. e) (o .own-are) (fine .1 .1) in
+    let (r₁, r₂, r₃) = rows-well message-attributes (o .own) within (t .rowed) (t .rowed-told) in
+    let (hs, long) = attachments-well (o .attachments) (m .attachments) (o .attachments-are) late (t .attachments-hold) in
+    let few : length (o .attachments) ≤ attachment-limit = o .few in
     record {
-      primary-small = primary-from fs all;
-      own-well = rw front (holding-from message-attributes own within);
-      rows-well = rw front w₁;
-      rows-few = rw front w₂;
-      rows-small = rw front w₃;
-      attachments-well = rw parts (attachments-well hs begun);
-      attachments-few = rw parts (omega (arith, length-map (map (λ h. map entry (attached h)) hs) holding-of, length-map hs (λ h. map entry (attached h))));
+      primary-small = told-primary (o .page) (m .primary) (fine .1 .0) (page-nature (o .page) (fine .1 .0 .right) (o .page-is)) (t .primary-is);
+      own-well = holding-well message-attributes (o .own) within (m .own) (t .own-holds);
+      rows-well = rw (t .rows-are) r₁;
+      rows-few = rw (t .rows-are) r₂;
+      rows-small = rw (t .rows-are) r₃;
+      attachments-well = hs;
+      attachments-few = omega arith;
     }
 
--- What a stream carries is well-formed.
 pub stream-well : (xs : List ℕ) (m : Message) → Octets xs → length xs ≤ source-limit → Stream xs m → Well m
 stream-well xs m o short s =
-    let (o₁, o₂) = octets-left (s .bytes .front) (s .bytes .back) (rw (s .bytes .joins) at o) in
     let w = s .bytes .other in
+    let (o₁, o₂) = octets-left (s .bytes .front) (s .bytes .back) (rw (s .bytes .joins) at o) in
     let (o₃, o₄) = octets-left (w .front) (w .back) (rw (w .joins) at o₂) in
     let l₁ : length xs ≡ length (s .bytes .front) + length (s .bytes .back) = ap length (s .bytes .joins) ∙ length-append (s .bytes .front) (s .bytes .back) in
     let l₂ : length (s .bytes .back) ≡ length (w .front) + length (w .back) = ap length (w .joins) ∙ length-append (w .front) (w .back) in
-    rw (s .tells) at (frames-well (s .frames) (s .order) (all-fine (s .frames) (w .back) o₄ (omega arith) (s .right) (w .other)))
+    frames-well (s .frames) (s .order) m (all-fine (s .frames) (w .back) o₄ (omega arith) (s .right) (w .other)) (s .tells)

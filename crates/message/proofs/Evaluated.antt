@@ -1,14 +1,14 @@
 -- The definitions evaluated at small streams.
-use mathlib.Core.Path.{_≡_, refl, ap, fun-ext, _∙_}
+use mathlib.Core.Path.{_≡_, refl, ap, fun-ext}
 use mathlib.Core.Bool.{Bool, true, false, cond}
-use mathlib.Core.List.{List, [], _∷_, _++_}
+use mathlib.Core.List.{[]}
 use Prim.Native.Nat.{ℕ}
 use lib.Dec.{eqb}
 use Rattle.std.specs.declared.option.Option.{Option}
-use Rattle.std.specs.declared.option.Option.the-variants.{Some, None}
-use Rattle.std.specs.declared.result.Result.the-variants.{Ok, Err}
+use Rattle.std.specs.declared.option.Option.the-variants.{None}
+use Rattle.std.specs.declared.result.Result.the-variants.{Ok}
 use Rattle.source.specs.Bytes.{le, val, part}
-use Rattle.source.specs.Outcome.{Outcome, _>>=_, _>>_}
+use Rattle.source.specs.Outcome.{_>>=_, _>>_}
 use Rattle.scan.specs.Texts.{before-zero, is-text16}
 use Rattle.attribute.specs.Table.{attribute-of, version-id, code-page-id}
 use Rattle.frame.specs.Frames.{header, head-at, head-judged, sum-judged, frame-at, next-frame}
@@ -23,7 +23,7 @@ use Rattle.property.specs.Writing.{write-key, write-values, write-property, wri
 use Rattle.stream.specs.Reading.{meant-as, entries-from, entries-at, entries-of}
 use Rattle.stream.specs.Messages.{Message, or-else, first, properties-of, rows-of, primary-of, message-part, attachment-parts, read}
 use Rattle.stream.specs.Writing.{write-entry, attribute-entries, entries-in, written}
-use Rattle.message.specs.Examples.{smallest, bare, Examples}
+use Rattle.message.specs.Examples.{Examples}
 
 abbrev holding-none : (ℕ → Option Contents) → Message
 holding-none held = record { primary = 1252; own = record { attributes = held; properties = [] }; rows = []; attachments = [] }

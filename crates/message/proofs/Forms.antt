@@ -1,38 +1,40 @@
 -- Forms are read again, are octets, and decide which messages are the same.
-use Prim.Native.Nat.{ℕ, zero, suc, _+_, _-_, _*_, _^_, _<_, _≤_}
+use Prim.Native.Nat.{ℕ, suc, _+_, _-_, _<_}
 use mathlib.Core.Path.{_≡_, refl, ap, sym, _∙_, fun-ext}
 use mathlib.Core.Logic.{inl, inr, _⊎_, _↔_}
-use mathlib.Core.Bool.{Bool, true, false, cond, not, _&&_, _||_}
+use mathlib.Core.Bool.{true, false}
 use mathlib.Core.List.{List, [], _∷_, _++_, map}
 use native.Mathlib.Omega.{arith}
 use lib.ListN.{length}
-use Rattle.std.specs.declared.option.Option.{Option}
 use Rattle.std.specs.declared.option.Option.the-variants.{Some, None}
-use Rattle.std.specs.declared.result.Result.the-variants.{Ok, Err}
-use Rattle.std.specs.shelf.Lists.{All, joined}
+use Rattle.std.specs.declared.result.Result.the-variants.{Ok}
+use Rattle.std.specs.shelf.Lists.{All, joined, sumBy}
+use Rattle.std.proofs.shelf.Lists.{length-append}
+use Rattle.std.proofs.shelf.Sums.{sumBy-cons}
+use Rattle.contents.proofs.LittleEndian.{length-le}
 use Rattle.std.proofs.shelf.Elements.{all-weaker, all-append}
-use Rattle.std.proofs.shelf.Tests.{cases-bool, or-parts, both-ways}
+use Rattle.std.proofs.shelf.Tests.{cases-bool, or-parts}
 use Rattle.source.specs.Bytes.{Octets}
 use Rattle.frame.specs.Frames.{signature}
 use Rattle.frame.specs.declared.stages.Stage.{Stage}
 use Rattle.frame.specs.declared.stages.Stage.the-variants as stage
-use Rattle.contents.specs.Contents.{Contents}
 use Rattle.index.specs.Keys.{Key, same-key}
 use Rattle.index.specs.Rows.{has}
 use Rattle.index.proofs.SameKeys.{key-itself, same-key-true}
 use Rattle.property.specs.Lists.{Property, same-property}
-use Rattle.message.specs.declared.Target.{Target}
 use Rattle.message.specs.declared.Target.the-variants.{Message as to-message, Row as to-row, Attachment as to-attachment}
 use Rattle.stream.specs.Messages.{Holding, Message, message-of, read}
 use Rattle.stream.specs.Reading.{Entry}
 use Rattle.stream.specs.Writing.{entries-in, entry-data, write-entry, written}
 use Rattle.message.specs.Promise.{Forms-read}
-use Rattle.message.specs.Sameness.{nth, row-holding, holding, contents-held, property-in, property-held, keys-held, Same, Is-message, Carries, Source-bytes}
-use Rattle.message.specs.Grammar.{_▷_, these, any, run, frame-bytes, Stream}
+use Rattle.message.specs.Sameness.{nth, row-holding, contents-held, property-in, property-held, keys-held, Same, Is-message}
+use Rattle.message.specs.Grammar.{Stream}
 use Rattle.message.proofs.Indexing.{Apart-keys, Well-list}
 use Rattle.message.proofs.Laying.{Good, Laid-as, good-laid, Well, Well-attachment, message-good}
 use Rattle.message.proofs.Telling.{message-back}
 use Rattle.message.proofs.Orders.{allowed-ordered}
+use Rattle.message.proofs.FrameReads.{entry}
+use Rattle.message.proofs.Earliest.{tells}
 use Rattle.message.proofs.Streams.{by-grammar}
 use Rattle.message.proofs.Carried.{stream-well}
 
@@ -49,12 +51,14 @@ form-stream m w =
     let l = form-laid m w in
     let bs = joined write-entry (entries-in m) in
     let key = 1 ∷ (0 ∷ []) in
+    let order = allowed-ordered (l .frames) (l .allowed) in
+    let whole : message-of (map entry (l .frames)) ≡ m = ap message-of (l .tells) ∙ message-back m w in
     record {
       frames = l .frames;
       bytes = record { front = signature; back = key ++ bs; joins = refl; one = refl; other = record { front = key; back = bs; joins = refl; one = refl; other = l .bytes } };
       right = l .right;
-      order = allowed-ordered (l .frames) (l .allowed);
-      tells = ap message-of (l .tells) ∙ message-back m w;
+      order = order;
+      tells = rw whole at (tells (l .frames) order (l .right));
     }
 
 pub form-read : (m : Message) → Well m → read (written m) ≡ Ok m
@@ -160,10 +164,25 @@ good-lengths : (es : List Entry) (s : Stage) → Good s es → All (λ e. length
 good-lengths [] s g = tt
 good-lengths (e ∷ es) s (a, t, f, go, g) = (f .data-small, good-lengths es t g)
 
+entry-size : (e : Entry) → length (write-entry e) ≡ 11 + length (entry-data (e .meant))
+unfolding write-entry
+entry-size e = simp (length-append, length-le) (omega arith)
+
+entries-size : (es : List Entry) → length (joined write-entry es) ≡ sumBy (λ e. 11 + length (entry-data (e .meant))) es
+entries-size [] = refl
+entries-size (e ∷ es) =
+    length-append (write-entry e) (joined write-entry es)
+    ∙ omega (arith, entry-size e, entries-size es, sumBy-cons (λ e. 11 + length (entry-data (e .meant))) e es)
+
+form-size : (m : Message) → length (written m) ≡ 6 + sumBy (λ e. 11 + length (entry-data (e .meant))) (entries-in m)
+unfolding written
+form-size m = length-append (signature ++ 1 ∷ (0 ∷ [])) (joined write-entry (entries-in m)) ∙ ap (λ n. 6 + n) (entries-size (entries-in m))
+
 pub forms-read : Forms-read
 forms-read = record {
   again = λ m a. form-read m (well m a);
   fixed = λ m n a c. let both : Ok m ≡ Ok n = sym (form-read m (well m a)) ∙ c in let same : n ≡ m = cc in ap written same;
   octets = λ m a. form-octets m (well m a);
+  size = form-size;
   lengths = λ m a. good-lengths (entries-in m) stage.Version (message-good m (well m a));
 }

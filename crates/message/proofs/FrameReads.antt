@@ -1,43 +1,43 @@
 -- Frames and streams: what the grammar tells is what is read.
-use Prim.Native.Nat.{ℕ, zero, suc, _+_, _-_, _*_, _/_, _%_, _^_, _<_, _≤_}
+use Prim.Native.Nat.{ℕ, zero, suc, _+_, _-_, _<_, _≤_}
 use mathlib.Core.Path.{_≡_, refl, ap, sym, _∙_}
-use mathlib.Core.Logic.{inl, inr, _⊎_, _↔_}
-use mathlib.Core.Bool.{Bool, true, false, cond, not, _&&_, _||_}
+use mathlib.Core.Logic.{inl, inr, _⊎_}
+use mathlib.Core.Bool.{true, _&&_, _||_}
 use mathlib.Core.List.{List, [], _∷_, _++_, map}
 use native.Mathlib.Omega.{arith}
-use native.Mathlib.Nat.{add-assoc, add-zero, zero-add}
+use native.Mathlib.Nat.{add-assoc}
 use lib.ListN.{length, take, drop, getD}
 use lib.Dec.{eqb, leb, ltb}
-use borrow.Author.Needs.{needs}
 use Rattle.std.specs.declared.option.Option.{Option}
 use Rattle.std.specs.declared.option.Option.the-variants.{Some, None}
-use Rattle.std.specs.declared.result.Result.{Result}
 use Rattle.std.specs.declared.result.Result.the-variants.{Ok, Err}
-use Rattle.std.specs.shelf.Lists.{All, joined}
-use Rattle.std.proofs.shelf.Lists.{append-assoc, append-nil, length-append, length-drop, take-at, drop-at, drop-drop, drop-all, drop-more, getD-drop, length-take-le, take-append-drop, places, same-lists}
-use Rattle.std.proofs.shelf.Tests.{eqb-true, eq-eqb, ne-eqb, and-parts, or-right, cases-bool, both-ways, le-leb, lt-leb, leb-true, lt-ltb, ltb-true}
-use Rattle.source.specs.declared.refusals.Reason.the-variants.{NotAdmitted}
+use Rattle.std.specs.shelf.Lists.{All}
+use Rattle.std.proofs.shelf.Lists.{append-assoc, length-append, length-drop, drop-drop, drop-all, drop-more, take-append-drop}
+use Rattle.std.proofs.shelf.Tests.{eqb-true, eq-eqb, ne-eqb, and-parts, cases-bool, le-leb, leb-true, lt-ltb, ltb-true}
 use Rattle.source.specs.declared.refusals.Refusal.{Refusal}
-use Rattle.source.specs.Bytes.{Octets, le, val, part, same-bytes}
-use Rattle.source.specs.Outcome.{Outcome, _>>=_, _>>_, need, given, over}
+use Rattle.source.specs.Bytes.{val, part}
+use Rattle.source.specs.Outcome.{Outcome, _>>=_, _>>_}
 use Rattle.scan.specs.Scans.{checksum}
 use Rattle.scan.proofs.Numbers.{length-part}
 use Rattle.attribute.specs.Table.{attribute-of, attributes, find}
 use Rattle.attribute.specs.declared.Attribute.{Attribute}
 use Rattle.attribute.specs.declared.Rule.{Rule}
-use Rattle.frame.specs.Frames.{signature, header, head-at, head-judged, is-class, sum-judged, frame-at, next-frame}
+use Rattle.frame.specs.Frames.{head-at, head-judged, is-class, sum-judged, frame-at, next-frame}
 use Rattle.frame.specs.Stages.{Role, opens, names-page, of-message, begins-attachment, of-attachment, role, next-stage, may-end, attachment-limit}
 use Rattle.frame.specs.declared.Frame.{Frame}
 use Rattle.frame.specs.declared.stages.Stage.{Stage}
 use Rattle.frame.specs.declared.stages.Stage.the-variants as stage
-use Rattle.contents.specs.Contents.{Contents, means, primary-number}
-use Rattle.property.specs.Lists.{Property}
-use Rattle.stream.specs.Reading.{Meant, version, primary, contents, list, table, Entry, Nature, plain, opening, page, rows, properties, nature, meant-as, meant-at, entries-from, entries-at, entries-of}
-use Rattle.message.specs.Grammar.{_▷_, these, any, number, run, Data-mean, Laid, frame-bytes, Right, entry}
-use Rattle.message.proofs.Pieces.{drop-behind, part-left, part-here, part-split, part-none, getD-left}
-use Rattle.message.proofs.Outcomes.{bind-ok, need-ok, need-true, given-ok, over-ok}
+use Rattle.contents.specs.Contents.{means}
+use Rattle.stream.specs.Reading.{Meant, Entry, Nature, plain, opening, page, rows, properties, nature, meant-as, meant-at, entries-from, entries-at}
+use Rattle.message.specs.Grammar.{_▷_, run, Data-mean, Laid, frame-bytes, Right}
+use Rattle.message.proofs.Pieces.{drop-behind, part-left, part-split, getD-left}
+use Rattle.message.proofs.Outcomes.{bind-ok, given-ok, over-ok}
 use Rattle.property.proofs.Outcomes.{err-not-ok, ok-same}
 use Rattle.message.proofs.PropertyReads.{list-told, table-told}
+
+-- A frame by its id and what it means.
+abbrev pub entry : Laid → Entry
+entry f = record { id = f .attribute .id; meant = f .meant }
 
 -- What data mean.
 meant-back : (n : Nature) (r : Rule) (xs : List ℕ) (base size : ℕ) (m : Meant) → base + size ≤ length xs → Data-mean n r (part xs base size) m → meant-as n r xs base size ≡ Ok m

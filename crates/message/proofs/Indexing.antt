@@ -1,13 +1,13 @@
 -- Lists in which no key stands twice, and what indexing a list leaves.
-use Prim.Native.Nat.{ℕ, zero, suc, _+_, _-_, _*_, _^_, _<_, _≤_}
-use mathlib.Core.Path.{_≡_, refl, ap, sym, _∙_}
+use Prim.Native.Nat.{ℕ, _+_, _-_, _≤_}
+use mathlib.Core.Path.{_≡_, refl, sym, _∙_}
 use mathlib.Core.Logic.{inl, inr}
-use mathlib.Core.Bool.{Bool, true, false, cond, not, _&&_, _||_}
+use mathlib.Core.Bool.{false, not}
 use mathlib.Core.List.{List, [], _∷_, _++_, map}
 use native.Mathlib.Omega.{arith}
 use lib.ListN.{length}
 use Rattle.std.specs.shelf.Lists.{All, joined, folded}
-use Rattle.std.proofs.shelf.Lists.{append-assoc, append-nil, length-append, length-map}
+use Rattle.std.proofs.shelf.Lists.{append-assoc, append-nil, length-append}
 use Rattle.std.proofs.shelf.Elements.{all-push}
 use Rattle.std.proofs.shelf.Tests.{or-parts, or-from, cases-bool, both-ways}
 use Rattle.source.specs.Bytes.{le}
@@ -17,10 +17,10 @@ use Rattle.index.specs.Rows.{has, added}
 use Rattle.index.specs.Laws.{Apart}
 use Rattle.index.proofs.SameKeys.{key-itself, same-key-true, same-key-from}
 use Rattle.index.proofs.Keeping.{lawful}
-use Rattle.property.specs.Lists.{Property, same-property, indexed, list-limit, row-limit}
+use Rattle.property.specs.Lists.{Property, same-property, indexed}
 use Rattle.property.specs.Names.{first-named}
 use Rattle.property.specs.Writing.{write-key, write-property, after-key, write-properties, write-list, write-table}
-use Rattle.message.specs.Grammar.{property-bytes, list-bytes, table-bytes}
+use Rattle.message.specs.Grammar.{property-bytes, list-bytes}
 use Rattle.message.proofs.Rewrites.{Told-by, list-from, list-parts}
 
 abbrev pub Apart-keys : List Property → Type 0

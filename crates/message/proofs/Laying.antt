@@ -1,40 +1,39 @@
 -- The entries of a well-formed message, laid as frames, are a stream.
-use Prim.Native.Nat.{ℕ, zero, suc, _+_, _-_, _*_, _^_, _<_, _≤_}
+use Prim.Native.Nat.{ℕ, _+_, _-_, _^_, _<_, _≤_}
 use mathlib.Core.Path.{_≡_, refl, ap, sym, _∙_}
-use mathlib.Core.Bool.{Bool, true, false, cond, _&&_, _||_}
+use mathlib.Core.Bool.{true, false}
 use mathlib.Core.List.{List, [], _∷_, _++_, map}
 use native.Mathlib.Omega.{arith}
 use lib.ListN.{length}
-use lib.Dec.{eqb, leb, ltb}
+use lib.Dec.{eqb}
 use Rattle.std.specs.declared.option.Option.{Option}
 use Rattle.std.specs.declared.option.Option.the-variants.{Some, None}
-use Rattle.std.specs.declared.result.Result.the-variants.{Ok, Err}
+use Rattle.std.specs.declared.result.Result.the-variants.{Ok}
 use Rattle.std.specs.shelf.Lists.{All, joined}
-use Rattle.std.proofs.shelf.Lists.{append-assoc, append-nil, length-append}
+use Rattle.std.proofs.shelf.Lists.{append-assoc, length-append}
 use Rattle.std.proofs.shelf.Tests.{eq-eqb, or-right, lt-ltb}
 use Rattle.std.proofs.shelf.Elements.{all-append}
-use Rattle.source.specs.Bytes.{Octets, le, val}
-use Rattle.source.specs.Outcome.{Outcome}
+use Rattle.source.specs.Bytes.{Octets, le}
 use Rattle.scan.specs.Scans.{checksum}
-use Rattle.attribute.specs.Table.{attribute-of, attributes, find, has-id, message-attributes, attachment-attributes, rendering-attribute, rendering-id, message-properties-id, attachment-properties-id, recipients-id, code-page-id, version-id}
+use Rattle.attribute.specs.Table.{attribute-of, attributes, has-id, message-attributes, attachment-attributes, rendering-attribute, rendering-id, message-properties-id, attachment-properties-id, recipients-id, code-page-id, version-id}
 use Rattle.attribute.specs.declared.Attribute.{Attribute}
-use Rattle.frame.specs.Frames.{signature, is-class}
+use Rattle.frame.specs.Frames.{is-class}
 use Rattle.frame.specs.Stages.{Role, of-message, begins-attachment, of-attachment, role, next-stage, may-end, attachment-limit}
 use Rattle.frame.specs.declared.stages.Stage.{Stage}
 use Rattle.frame.specs.declared.stages.Stage.the-variants as stage
-use Rattle.contents.specs.Contents.{Contents, means, normal, code-page, primary-number, version-data}
+use Rattle.contents.specs.Contents.{Contents, means, normal, code-page}
 use Rattle.contents.proofs.LittleEndian.{length-le, val-le}
-use Rattle.property.specs.Lists.{Property, row-limit, list-limit}
+use Rattle.property.specs.Lists.{Property, row-limit}
 use Rattle.property.specs.Writing.{write-list, write-table}
-use Rattle.stream.specs.Reading.{Meant, version, primary, contents, list, table, Entry, Nature, plain, nature}
+use Rattle.stream.specs.Reading.{Meant, version, primary, contents, list, table, Entry, plain, nature}
 use Rattle.stream.specs.Messages.{Message, Holding}
-use Rattle.stream.specs.Writing.{entry-data, level-in, write-frame, write-entry, found, attribute-entries, list-entries, table-entries, message-entries, attachment-entries, entries-in}
-use Rattle.message.specs.Grammar.{_▷_, these, any, number, run, Data-mean, Laid, frame-bytes, Right, entry, list-bytes, table-bytes}
+use Rattle.stream.specs.Writing.{entry-data, write-entry, found, attribute-entries, list-entries, table-entries, message-entries, attachment-entries, entries-in}
+use Rattle.message.specs.Grammar.{run, Data-mean, Laid, frame-bytes, Right, list-bytes, table-bytes}
 use Rattle.message.proofs.Pieces.{octets-le}
 use Rattle.message.proofs.Rewrites.{Told-by, list-turns, table-turns, table-from}
-use Rattle.message.proofs.Indexing.{Apart-keys, Well-list}
+use Rattle.message.proofs.Indexing.{Well-list}
 use Rattle.message.proofs.NormalData.{page-normal, page-octets}
-use Rattle.message.proofs.FrameReads.{Allowed, id-of}
+use Rattle.message.proofs.FrameReads.{entry, Allowed, id-of}
 
 -- An entry that can be laid as a frame.
 pub record Fits (a : Attribute) (e : Entry) : Type 0 where

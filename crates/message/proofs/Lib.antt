@@ -4,6 +4,8 @@ pub mod Readers
 pub mod PropertyReads
 pub mod FrameReads
 pub mod Orders
+pub mod Roles
+pub mod Earliest
 pub mod Streams
 pub mod Rewrites
 pub mod Indexing

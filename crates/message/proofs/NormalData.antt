@@ -1,7 +1,7 @@
 -- The normal data of contents are octets; those of a code page mean it.
-use Prim.Native.Nat.{ℕ, zero, suc, _+_, _-_, _*_, _^_, _<_, _≤_}
-use mathlib.Core.Path.{_≡_, refl, ap, sym, _∙_}
-use mathlib.Core.Bool.{Bool, true, false, cond, _&&_}
+use Prim.Native.Nat.{ℕ, zero, suc, _+_, _-_, _^_, _<_, _≤_}
+use mathlib.Core.Path.{_≡_, refl}
+use mathlib.Core.Bool.{Bool, true, _&&_}
 use mathlib.Core.List.{List, [], _∷_, _++_, map}
 use native.Mathlib.Omega.{arith}
 use lib.Dec.{eqb, ltb}
@@ -14,16 +14,16 @@ use Rattle.source.specs.Bytes.{Octets, le, val, part}
 use Rattle.scan.specs.Texts.{also, before-zero}
 use Rattle.attribute.specs.declared.Rule.{Rule}
 use Rattle.attribute.specs.declared.Rule.the-variants as rule
-use Rattle.contents.specs.Options.{where-true, then, exactly}
+use Rattle.contents.specs.Options.{then, exactly}
 use Rattle.contents.specs.Calendar.{date-of}
 use Rattle.contents.specs.Classes.{pair-number}
 use Rattle.contents.specs.Digits.{digit, capital, digit-pairs}
 use Rattle.contents.specs.Status.{status-in}
-use Rattle.contents.specs.Contents.{Contents, text, class, date, digits, status, importance, truth, raw, rendering, version, code-page, class-of, importance-in, truth-in, code-page-in, checked-rendering, right-rendering, rendering-in, is-version, means, normal, primary-number}
+use Rattle.contents.specs.Contents.{Contents, text, class, date, digits, status, importance, truth, raw, version, code-page, class-of, importance-in, truth-in, code-page-in, checked-rendering, right-rendering, rendering-in, is-version, means, normal, primary-number}
 use Rattle.contents.proofs.LittleEndian.{val-part}
 use Rattle.contents.proofs.Normal.{zero-gives, pair-within}
 use Rattle.contents.proofs.Parts.{where-some, also-some, then-some, exactly-some, exactly-all}
-use Rattle.message.proofs.Pieces.{octets-le, octets-left}
+use Rattle.message.proofs.Pieces.{octets-le}
 
 -- Octets by a test, which computes.
 abbrev are-octets : List ℕ → Bool

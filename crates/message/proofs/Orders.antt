@@ -1,18 +1,17 @@
 -- Frames that stages allow one behind another are frames in order.
-use Prim.Native.Nat.{ℕ, zero, suc, _+_, _-_, _<_, _≤_}
+use Prim.Native.Nat.{ℕ, _+_, _-_, _<_, _≤_}
 use mathlib.Core.Path.{_≡_, refl, ap, sym, _∙_}
 use mathlib.Core.Logic.{inl, inr, _⊎_}
-use mathlib.Core.Bool.{Bool, true, false, cond}
+use mathlib.Core.Bool.{true, false}
 use mathlib.Core.List.{List, [], _∷_, _++_}
 use native.Mathlib.Omega.{arith}
 use lib.ListN.{length}
 use lib.Dec.{ltb}
-use Rattle.std.specs.declared.result.Result.the-variants.{Ok, Err}
+use Rattle.std.specs.declared.result.Result.the-variants.{Ok}
 use Rattle.std.specs.shelf.Lists.{All, joined}
 use Rattle.std.proofs.shelf.Tests.{cases-bool, both-ways, lt-ltb, ltb-true}
-use Rattle.source.specs.Outcome.{Outcome}
 use Rattle.property.proofs.Outcomes.{err-not-ok, ok-same}
-use Rattle.frame.specs.Stages.{Role, opens, names-page, of-message, begins-attachment, of-attachment, role, next-stage, may-end, attachment-limit}
+use Rattle.frame.specs.Stages.{Role, opens, names-page, of-message, begins-attachment, of-attachment, role, next-stage, attachment-limit}
 use Rattle.frame.specs.declared.stages.Stage.{Stage}
 use Rattle.frame.specs.declared.stages.Stage.the-variants as stage
 use Rattle.message.specs.Grammar.{Laid, Is, Attached, attached, Begun, In-order}

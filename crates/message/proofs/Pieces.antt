@@ -1,16 +1,13 @@
 -- Parts of a list, numbers as bytes, and padding.
-use Prim.Native.Nat.{ℕ, zero, suc, _+_, _-_, _*_, _/_, _%_, _^_, _<_, _≤_, min}
+use Prim.Native.Nat.{ℕ, zero, suc, _+_, _-_, _/_}
 use mathlib.Core.Path.{_≡_, refl, ap, sym, _∙_}
 use mathlib.Core.List.{List, [], _∷_, _++_}
 use native.Mathlib.Omega.{arith}
 use native.Mathlib.Nat.{add-zero}
 use lib.ListN.{length, take, drop, getD, replicate}
-use Rattle.std.specs.shelf.Lists.{All}
-use Rattle.std.proofs.shelf.Lists.{append-assoc, length-take, length-drop, length-append, length-replicate, drop-drop, drop-at, take-at, places, same-lists, getD-drop}
-use Rattle.std.proofs.shelf.Elements.{all-take, all-drop, all-append}
+use Rattle.std.proofs.shelf.Lists.{drop-drop, drop-at, take-at, places, same-lists, getD-drop}
 use borrow.Author.Needs.{needs}
-use Rattle.source.specs.Bytes.{Octets, le, val, part}
-use Rattle.scan.proofs.Numbers.{length-part}
+use Rattle.source.specs.Bytes.{Octets, le, part}
 
 pub octets-le : (w n : ℕ) → Octets (le w n)
 unfolding le
@@ -20,10 +17,6 @@ octets-le (suc w) n = (omega arith, octets-le w (n / 256))
 pub octets-zeros : (n : ℕ) → Octets (replicate n 0)
 octets-zeros zero = tt
 octets-zeros (suc n) = (omega arith, octets-zeros n)
-
-pub octets-of-part : (xs : List ℕ) (p n : ℕ) → Octets xs → Octets (part xs p n)
-unfolding part
-octets-of-part xs p n h = all-take _ n (drop p xs) (all-drop _ p xs h)
 
 pub octets-left : (xs ys : List ℕ) → Octets (xs ++ ys) → Octets xs × Octets ys
 octets-left [] ys h = (tt, h)
@@ -47,10 +40,6 @@ part-split xs p m n = rw (← drop-drop m p xs) (go m (drop p xs))
   where
     go : (m : ℕ) (ys : List ℕ) → take (m + n) ys ≡ take m ys ++ take n (drop m ys)
     go m ys = same-lists _ _ (search (needs, places)) (λ k d l. grind (arith, places))
-
-pub part-all : (xs : List ℕ) (p n : ℕ) → p + n ≡ length xs → part xs p n ≡ drop p xs
-unfolding part
-part-all xs p n e = same-lists _ _ (search (needs, places)) (λ k d l. grind (arith, places))
 
 pub getD-left : (xs : List ℕ) (p y : ℕ) (ys : List ℕ) → drop p xs ≡ y ∷ ys → getD xs p 0 ≡ y
 getD-left xs p y ys e = rw add-zero at (sym (getD-drop p xs 0 0) ∙ ap (λ l. getD l 0 0) e)

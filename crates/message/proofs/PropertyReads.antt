@@ -1,36 +1,33 @@
 -- Keys, values, properties, lists and tables: what the grammar tells is what is read.
-use Prim.Native.Nat.{ℕ, zero, suc, _+_, _-_, _*_, _^_, _<_, _≤_}
+use Prim.Native.Nat.{ℕ, _+_, _-_, _<_, _≤_}
 use mathlib.Core.Path.{_≡_, refl, ap, sym, _∙_}
 use mathlib.Core.Logic.{_↔_}
-use mathlib.Core.Bool.{Bool, true, false, cond, not, _&&_, _||_}
-use mathlib.Core.List.{List, [], _∷_, _++_}
+use mathlib.Core.Bool.{Bool, true, false, cond, _&&_}
+use mathlib.Core.List.{List, [], _++_}
 use native.Mathlib.Omega.{arith}
-use native.Mathlib.Nat.{add-assoc, add-zero, zero-add}
-use lib.ListN.{length, take, drop}
+use lib.ListN.{length, drop}
 use lib.Dec.{eqb, leb, ltb}
 use Rattle.std.specs.declared.option.Option.{Option}
 use Rattle.std.specs.declared.option.Option.the-variants.{Some, None}
-use Rattle.std.specs.declared.result.Result.{Result}
-use Rattle.std.specs.declared.result.Result.the-variants.{Ok, Err}
-use Rattle.std.proofs.shelf.Lists.{append-assoc, append-nil, length-append, length-drop, take-append-drop}
-use Rattle.std.proofs.shelf.Tests.{le-leb, leb-true, eqb-true, eqb-false, ltb-true, ltb-false, lt-ltb, le-ltb, eq-eqb, and-parts, and-from}
-use Rattle.source.specs.declared.refusals.Reason.the-variants.{FieldEnd, FieldRule, LeftOver, Limit}
-use Rattle.source.specs.Bytes.{Octets, le, val, part}
-use Rattle.source.specs.Outcome.{Outcome, _>>=_, _>>_, need, given, over}
+use Rattle.std.specs.declared.result.Result.the-variants.{Ok}
+use Rattle.std.proofs.shelf.Lists.{append-nil, take-append-drop}
+use Rattle.std.proofs.shelf.Tests.{le-leb, leb-true, eqb-true, eqb-false, ltb-true, ltb-false, eq-eqb, and-parts, and-from}
+use Rattle.source.specs.declared.refusals.Reason.the-variants.{FieldRule, Limit}
+use Rattle.source.specs.Bytes.{part}
+use Rattle.source.specs.Outcome.{Outcome, _>>=_, _>>_, need, given}
 use Rattle.scan.specs.Texts.{is-text16}
 use Rattle.scan.proofs.Numbers.{length-part}
 use Rattle.index.specs.Keys.{Key, tag, numbered, named}
 use Rattle.index.specs.Limits.{name-limit}
 use Rattle.property.specs.declared.kinds.Kind.{Kind}
 use Rattle.property.specs.declared.kinds.Shape.{Shape}
-use Rattle.property.specs.Fields.{At, at, padded, repeated, field, number-at, sized, whole}
-use Rattle.property.specs.Kinds.{Value, value, admits, width, shape-of}
+use Rattle.property.specs.Fields.{At, at, repeated, number-at, sized, whole}
+use Rattle.property.specs.Kinds.{value, admits, width, shape-of}
 use Rattle.property.specs.Names.{first-named, name-string, name-number, name, key-at}
 use Rattle.property.specs.Values.{fixed-value, sized-value, fixed-values, sized-values, values-of, values-at}
 use Rattle.property.specs.Lists.{Property, property-from, property-at, list-at, table-at, property-list, recipient-table, list-limit, row-limit}
-use Rattle.message.specs.Grammar.{_▷_, these, any, number, filling, sizing, run, key-bytes, fixed-bytes, sized-bytes, Many, values-bytes, property-bytes, list-bytes, table-bytes}
-use Rattle.message.proofs.Pieces.{drop-behind, part-left, part-here, part-split, part-none}
-use Rattle.message.proofs.Outcomes.{bind-ok, need-ok, given-ok, over-ok}
+use Rattle.message.specs.Grammar.{_▷_, these, number, sizing, run, key-bytes, fixed-bytes, sized-bytes, Many, values-bytes, property-bytes, list-bytes, table-bytes}
+use Rattle.message.proofs.Outcomes.{bind-ok, need-ok}
 use Rattle.message.proofs.Readers.{Laws, bind-laws, same-reads, same-laws, view-laws, checked-laws, give-laws, test-laws, given-laws, either-laws, repeated-laws, number-then, number-last, counted-laws, field-then, padding-laws, sized-laws}
 
 -- A name behind its number, behind its GUID, and behind its kind.

@@ -1,17 +1,16 @@
 -- The laws of readers: what a grammar tells is read, and what is read is told by the grammar.
-use Prim.Native.Nat.{ℕ, zero, suc, _+_, _-_, _*_, _^_, _<_, _≤_}
+use Prim.Native.Nat.{ℕ, zero, suc, _+_, _-_, _≤_}
 use mathlib.Core.Path.{_≡_, refl, ap, sym, _∙_}
 use mathlib.Core.Bool.{Bool, true, false, cond}
 use mathlib.Core.List.{List, [], _∷_, _++_}
 use native.Mathlib.Omega.{arith}
-use native.Mathlib.Nat.{add-assoc, add-zero}
+use native.Mathlib.Nat.{add-zero}
 use lib.Dec.{leb}
-use lib.ListN.{length, take, drop}
+use lib.ListN.{length, drop}
 use Rattle.std.specs.declared.option.Option.{Option}
 use Rattle.std.specs.declared.option.Option.the-variants.{Some, None}
-use Rattle.std.specs.declared.result.Result.{Result}
 use Rattle.std.specs.declared.result.Result.the-variants.{Ok, Err}
-use Rattle.std.proofs.shelf.Lists.{append-assoc, append-nil, length-append}
+use Rattle.std.proofs.shelf.Lists.{append-assoc, length-append}
 use Rattle.std.proofs.shelf.Tests.{le-leb, leb-true}
 use Rattle.source.specs.declared.refusals.Reason.{Reason}
 use Rattle.source.specs.declared.refusals.Reason.the-variants.{FieldEnd}
@@ -19,9 +18,9 @@ use Rattle.source.specs.Bytes.{val, part}
 use Rattle.source.specs.Outcome.{Outcome, _>>=_, _>>_, need, given, over}
 use Rattle.scan.proofs.Numbers.{length-part}
 use Rattle.property.specs.Fields.{At, at, padded, repeated, field, number-at, sized}
-use Rattle.message.specs.Grammar.{_▷_, these, any, number, filling, sizing, run}
-use Rattle.message.proofs.Pieces.{drop-behind, part-left, part-here, part-split, part-none}
-use Rattle.message.proofs.Outcomes.{bind-ok, need-ok, need-true, given-ok, over-ok}
+use Rattle.message.specs.Grammar.{_▷_, number, filling, sizing, run}
+use Rattle.message.proofs.Pieces.{drop-behind, part-here, part-split, part-none}
+use Rattle.message.proofs.Outcomes.{bind-ok, need-ok, need-true}
 
 pub record Laws {A : Type 0} (xs : List ℕ) (end : ℕ) (read : ℕ → Outcome (At A)) (G : A → List ℕ → Type 0) : Type 0 where
   pub back : (p : ℕ) (a : A) (bs rest : List ℕ) → G a bs → drop p xs ≡ bs ++ rest → p + length bs ≤ end → read p ≡ Ok (at a (p + length bs))
@@ -204,10 +203,6 @@ module _ (xs : List ℕ) (end : ℕ) (fits : end ≤ length xs) (start : ℕ) wh
       (λ n. test-laws xs end (t n) r place (repeated read n) _ (λ ok. repeated-laws xs end read G l n))
       (λ ls bs g. (length ls, record { front = g .1 .front; back = g .1 .back; joins = g .1 .joins; one = g .1 .one; other = (g .0, (refl, g .1 .other)) }))
       (λ n ls bs g. rw (g .other .1 .0) (g .other .0, record { front = g .front; back = g .back; joins = g .joins; one = g .one; other = g .other .1 .1 }))
-
-  pub number-laws : (w : ℕ) → Laws xs end (λ p. over (λ n. at n (p + w)) (number-at xs end start p w)) (number w)
-  unfolding number-at
-  number-laws w = field-laws val w
 
   pub field-then : {B : Type 0} (w : ℕ) (second : List ℕ → ℕ → Outcome (At B)) (Gb : List ℕ → B → List ℕ → Type 0) (G : B → List ℕ → Type 0) →
       ((s : List ℕ) → Laws xs end (second s) (Gb s)) →

@@ -1,5 +1,5 @@
 -- Properties are written anew: their normal bytes are of the same grammar, octets, and as many.
-use Prim.Native.Nat.{ℕ, zero, suc, _+_, _-_, _*_, _^_, _<_, _≤_}
+use Prim.Native.Nat.{ℕ, _+_, _-_, _^_, _<_, _≤_}
 use mathlib.Core.Path.{_≡_, refl, ap, sym, _∙_}
 use mathlib.Core.Bool.{Bool, true, false, cond, not}
 use mathlib.Core.List.{List, [], _∷_, _++_}
@@ -16,13 +16,12 @@ use Rattle.contents.proofs.LittleEndian.{length-le, val-le, val-lt}
 use Rattle.index.specs.Keys.{Key, tag, numbered, named}
 use Rattle.property.specs.declared.kinds.Kind.{Kind}
 use Rattle.property.specs.declared.kinds.Kind.the-variants.{Fixed, YesNo, String8, String16, Binary, Object}
-use Rattle.property.specs.declared.kinds.Shape.{Shape}
 use Rattle.property.specs.Fields.{padded, filled}
-use Rattle.property.specs.Kinds.{Value, truth, bytes, value, admits, width, shape-of, normal}
+use Rattle.property.specs.Kinds.{Value, truth, bytes, value, width, normal}
 use Rattle.property.specs.Lists.{Property, list-limit, row-limit}
 use Rattle.property.specs.Names.{first-named}
-use Rattle.property.specs.Writing.{write-key, write-fixed, write-sized, write-count, write-values, write-shaped, write-property, after-key, write-properties, write-list, write-table}
-use Rattle.message.specs.Grammar.{_▷_, these, any, number, filling, sizing, run, key-bytes, fixed-bytes, sized-bytes, Many, values-bytes, property-bytes, list-bytes, table-bytes}
+use Rattle.property.specs.Writing.{write-key, write-fixed, write-sized, write-values, write-property, after-key, write-properties, write-list, write-table}
+use Rattle.message.specs.Grammar.{_▷_, these, any, number, filling, sizing, run, key-bytes, fixed-bytes, sized-bytes, values-bytes, property-bytes, list-bytes, table-bytes}
 use Rattle.message.proofs.Pieces.{octets-le, octets-zeros, octets-left}
 
 -- Bytes of P are written anew as w, of Q.

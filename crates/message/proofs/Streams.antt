@@ -1,27 +1,27 @@
 -- Streams are read exactly where the grammar tells them.
-use Prim.Native.Nat.{ℕ, zero, suc, _+_, _-_, _<_, _≤_}
+use Prim.Native.Nat.{ℕ, _+_, _-_, _≤_}
 use mathlib.Core.Path.{_≡_, refl, ap, sym, _∙_}
-use mathlib.Core.Logic.{inl, inr, _⊎_, _↔_}
-use mathlib.Core.Bool.{Bool, true, false, cond}
+use mathlib.Core.Logic.{_↔_}
+use mathlib.Core.Bool.{true, false}
 use mathlib.Core.List.{List, [], _∷_, _++_, map}
 use native.Mathlib.Omega.{arith}
 use lib.ListN.{length, take, drop}
-use lib.Dec.{leb}
-use Rattle.std.specs.declared.result.Result.the-variants.{Ok, Err}
+use Rattle.std.specs.declared.result.Result.the-variants.{Ok}
 use Rattle.std.specs.shelf.Lists.{All}
-use Rattle.std.proofs.shelf.Lists.{append-assoc, length-append, length-take-le, length-drop, take-append-drop, drop-drop}
+use Rattle.std.proofs.shelf.Lists.{length-take-le, length-drop, take-append-drop, drop-drop}
 use Rattle.std.proofs.shelf.Tests.{le-leb, leb-true, eqb-true, and-parts, both-ways}
 use Rattle.source.specs.Bytes.{part, val, same-bytes}
-use Rattle.source.specs.Outcome.{Outcome, _>>=_, _>>_, need, over}
+use Rattle.source.specs.Outcome.{_>>=_, _>>_, over}
 use Rattle.frame.specs.Frames.{signature, header}
 use Rattle.frame.specs.declared.stages.Stage.the-variants as stage
-use Rattle.stream.specs.Reading.{Entry, entries-at, entries-of}
+use Rattle.stream.specs.Reading.{entries-of}
 use Rattle.stream.specs.Messages.{Message, message-of, read}
 use Rattle.message.specs.Sameness.{Carries}
-use Rattle.message.specs.Grammar.{_▷_, these, any, run, Laid, frame-bytes, Right, entry, Stream}
+use Rattle.message.specs.Grammar.{run, Laid, frame-bytes, Right, Stream}
 use Rattle.message.proofs.Outcomes.{bind-ok, need-ok, over-ok}
-use Rattle.message.proofs.FrameReads.{Allowed, entries-back, Told, entries-give}
+use Rattle.message.proofs.FrameReads.{entry, Allowed, entries-back, Told, entries-give}
 use Rattle.message.proofs.Orders.{allowed-ordered, ordered-allowed}
+use Rattle.message.proofs.Earliest.{tells, tells-back}
 
 same-bytes-true : (xs ys : List ℕ) → same-bytes xs ys ≡ true → xs ≡ ys
 same-bytes-true [] [] e = refl
@@ -46,11 +46,13 @@ header-back (a ∷ (b ∷ (c ∷ key))) bs l = absurd (omega arith)
 stream-gives : (xs : List ℕ) (m : Message) → Carries xs m → Stream xs m
 unfolding read entries-of
 stream-gives xs m e =
-    let (es, ee, tells) = over-ok _ _ _ e in
+    let (es, ee, same) = over-ok _ _ _ e in
     let (k, ek, e₁) = bind-ok _ _ _ ee in
     let (six, sign) = header-gives xs k ek in
     let told : Told xs 6 stage.Version es = entries-give (length xs) xs 6 stage.Version es six e₁ in
     let two : length (drop 4 xs) ≡ length xs - 4 = length-drop 4 xs in
+    let order = allowed-ordered (told .frames) (told .allowed) in
+    let whole : message-of (map entry (told .frames)) ≡ m = ap message-of (told .tells) ∙ same in
     record {
       frames = told .frames;
       bytes = record {
@@ -67,8 +69,8 @@ stream-gives xs m e =
         };
       };
       right = told .right;
-      order = allowed-ordered (told .frames) (told .allowed);
-      tells = ap message-of (told .tells) ∙ tells;
+      order = order;
+      tells = rw whole at (tells (told .frames) order (told .right));
     }
 
 entries-told : (key bs : List ℕ) (fs : List Laid) → length key ≡ 2 → All Right fs → Allowed stage.Version fs → run frame-bytes fs bs → entries-of (signature ++ (key ++ bs)) ≡ Ok (map entry fs)
@@ -85,7 +87,7 @@ stream-back xs m s =
     let whole : xs ≡ signature ++ (key ++ bs) = s .bytes .joins ∙ ap (λ l. l ++ s .bytes .back) (s .bytes .one) ∙ ap (λ l. signature ++ l) (s .bytes .other .joins) in
     ap (λ ys. over message-of (entries-of ys)) whole
     ∙ ap (over message-of) (entries-told key bs (s .frames) (s .bytes .other .one) (s .right) (ordered-allowed (s .frames) (s .order)) (s .bytes .other .other))
-    ∙ ap Ok (s .tells)
+    ∙ ap Ok (tells-back (s .frames) (s .order) (s .right) m (s .tells))
 
 pub by-grammar : (xs : List ℕ) (m : Message) → Carries xs m ↔ Stream xs m
 by-grammar xs m = (stream-gives xs m, stream-back xs m)

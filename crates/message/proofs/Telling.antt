@@ -1,27 +1,26 @@
 -- What the entries of a well-formed message tell is the message.
-use Prim.Native.Nat.{ℕ, zero, suc, _+_, _-_, _*_, _^_, _<_, _≤_}
+use Prim.Native.Nat.{ℕ, _+_, _-_}
 use mathlib.Core.Path.{_≡_, refl, ap, sym, _∙_, fun-ext}
 use mathlib.Core.Logic.{inl, inr, _⊎_}
-use mathlib.Core.Bool.{Bool, true, false, cond, not, _&&_, _||_}
+use mathlib.Core.Bool.{Bool, true, false, cond, _||_}
 use mathlib.Core.List.{List, [], _∷_, _++_, map}
-use lib.ListN.{length}
 use lib.Dec.{eqb}
 use Rattle.std.specs.declared.option.Option.{Option}
 use Rattle.std.specs.declared.option.Option.the-variants.{Some, None}
 use Rattle.std.specs.shelf.Lists.{All, joined}
-use Rattle.std.proofs.shelf.Lists.{append-assoc, append-nil}
+use Rattle.std.proofs.shelf.Lists.{append-nil}
 use Rattle.std.proofs.shelf.Tests.{eqb-true, cases-bool}
 use Rattle.std.proofs.shelf.Elements.{all-append}
-use Rattle.attribute.specs.Table.{attribute-of, has-id, message-attributes, attachment-attributes, rendering-attribute, rendering-id, message-properties-id, attachment-properties-id, recipients-id, code-page-id, version-id}
+use Rattle.attribute.specs.Table.{has-id, message-attributes, attachment-attributes, rendering-attribute, rendering-id, message-properties-id, attachment-properties-id, recipients-id, code-page-id, version-id}
 use Rattle.attribute.specs.declared.Attribute.{Attribute}
 use Rattle.frame.specs.Stages.{Role, of-message, of-attachment}
 use Rattle.contents.specs.Contents.{Contents}
 use Rattle.property.specs.Lists.{Property, indexed}
-use Rattle.stream.specs.Reading.{Meant, version, primary, contents, list, table, Entry}
-use Rattle.stream.specs.Messages.{Message, Holding, or-else, or-default, first, as-contents, as-list, as-table, as-primary, contents-under, properties-of, rows-of, primary-of, holding-of, message-part, attachment-parts, message-of}
+use Rattle.stream.specs.Reading.{version, primary, contents, Entry}
+use Rattle.stream.specs.Messages.{Message, Holding, or-else, or-default, first, as-list, as-table, as-primary, contents-under, properties-of, rows-of, primary-of, holding-of, message-part, attachment-parts, message-of}
 use Rattle.stream.specs.Writing.{found, attribute-entries, list-entries, table-entries, message-entries, attachment-entries, entries-in}
 use Rattle.message.proofs.Indexing.{Apart-keys, Well-list, indexed-same}
-use Rattle.message.proofs.Laying.{Placed, message-places, attachment-places, Known, Well-holding, Well-attachment, Well, one}
+use Rattle.message.proofs.Laying.{Placed, message-places, attachment-places, Known, Well-attachment, Well, one}
 
 -- What the entries tell.
 first-append : {A : Type 0} (g : Entry → Option A) (fs gs : List Entry) → first g (fs ++ gs) ≡ or-else (first g fs) (first g gs)
@@ -32,10 +31,6 @@ first-append g (f ∷ fs) gs = rw (first-append g fs gs) (or-assoc (g f) (first 
     or-assoc : {A : Type 0} (a b c : Option A) → or-else a (or-else b c) ≡ or-else (or-else a b) c
     or-assoc (Some a) b c = refl
     or-assoc None b c = refl
-
--- entries that tell nothing
-abbrev Mute : {A : Type 0} → (Entry → Option A) → List Entry → Type 0
-Mute g fs = first g fs ≡ None
 
 mute-append : {A : Type 0} (g : Entry → Option A) (fs gs : List Entry) → first g fs ≡ None → first g (fs ++ gs) ≡ first g gs
 mute-append g fs gs e = rw (first-append g fs gs, e)

@@ -1,6 +1,6 @@
 -- The format, said of the bytes: which bytes are a number, a key, a property, a list, a frame, a stream.
 use mathlib.Core.Path.{_≡_}
-use mathlib.Core.Logic.{_↔_}
+use mathlib.Core.Logic.{_↔_, _⊎_}
 use mathlib.Core.List.{List, [], _∷_, _++_, map}
 use mathlib.Core.Bool.{Bool, true, false, cond, _||_}
 use Prim.Native.Nat.{ℕ, _-_, _<_, _≤_}
@@ -24,10 +24,10 @@ use Rattle.property.specs.declared.kinds.Kind.{Kind}
 use Rattle.property.specs.declared.kinds.Shape.{Shape}
 use Rattle.property.specs.Fields.{padded}
 use Rattle.property.specs.Kinds.{Value, value, admits, width, shape-of}
-use Rattle.property.specs.Lists.{Property, list-limit, row-limit}
+use Rattle.property.specs.Lists.{Property, list-limit, row-limit, indexed}
 use Rattle.property.specs.Names.{first-named}
-use Rattle.stream.specs.Reading.{Meant, version, primary, contents, list, table, Entry, Nature, plain, opening, page, rows, properties, nature}
-use Rattle.stream.specs.Messages.{Message, message-of}
+use Rattle.stream.specs.Reading.{Meant, version, primary, contents, list, table, Nature, plain, opening, page, rows, properties, nature}
+use Rattle.stream.specs.Messages.{Message, Holding, or-default}
 use Rattle.message.specs.Sameness.{Carries}
 
 infixr 30 _▷_
@@ -157,9 +157,46 @@ pub record In-order (fs : List Laid) : Type 0 where
   pub attachments-are : All Begun attachments
   pub few : length attachments ≤ attachment-limit
 
--- A frame by its id and what it means.
-abbrev pub entry : Laid → Entry
-entry f = record { id = f .attribute .id; meant = f .meant }
+-- The earliest frame of a kind.
+abbrev pub Earliest : (Laid → Type 0) → List Laid → Laid → Type 0
+Earliest P [] f = ⊥
+Earliest P (g ∷ gs) f = (P g × (f ≡ g)) ⊎ ((P g → ⊥) × Earliest P gs f)
+
+-- What the earliest frame of a kind means; nothing where there is none.
+abbrev pub Told : {A : Type 0} → (Laid → Type 0) → (A → Meant) → List Laid → Option A → Type 0
+Told P as-meant fs (Some a) = (f : Laid) × Earliest P fs f × (f .meant ≡ as-meant a)
+Told P as-meant fs None = All (λ f. P f → ⊥) fs
+
+-- Frames of contents with an id, and frames of a nature.
+abbrev pub With-id : ℕ → Laid → Type 0
+With-id i f = (f .attribute .id ≡ i) × (nature (f .attribute .rule) ≡ plain)
+
+abbrev pub Of-nature : Nature → Laid → Type 0
+Of-nature n f = nature (f .attribute .rule) ≡ n
+
+-- What frames tell of their target: contents by the earliest frame of each id, and properties by the earliest list, in which
+-- the earliest property of each key counts.
+pub record Holds (fs : List Laid) (h : Holding) : Type 0 where
+  pub by-id : (i : ℕ) → Told (With-id i) contents fs (h .attributes i)
+  pub listed : Option (List Property)
+  pub listed-told : Told (Of-nature properties) list fs listed
+  pub properties-are : h .properties ≡ indexed (or-default listed [])
+
+-- One of each, side by side.
+abbrev pub Each : {A B : Type 0} → (A → B → Type 0) → List A → List B → Type 0
+Each R [] [] = Unit {0}
+Each R [] (b ∷ bs) = ⊥
+Each R (a ∷ ls) [] = ⊥
+Each R (a ∷ ls) (b ∷ bs) = R a b × Each R ls bs
+
+-- What frames in order tell: the primary number, the message, its rows by the earliest table, and each attachment.
+pub record Tells (fs : List Laid) (o : In-order fs) (m : Message) : Type 0 where
+  pub primary-is : o .page .meant ≡ primary (m .primary)
+  pub own-holds : Holds (o .own) (m .own)
+  pub rowed : Option (List (List Property))
+  pub rowed-told : Told (Of-nature rows) table (o .own) rowed
+  pub rows-are : m .rows ≡ map indexed (or-default rowed [])
+  pub attachments-hold : Each (λ a h. Holds (attached a) h) (o .attachments) (m .attachments)
 
 -- A stream that carries m: the signature, a key of two bytes, and frames that are right, in order, and tell m.
 pub record Stream (xs : List ℕ) (m : Message) : Type 0 where
@@ -167,7 +204,7 @@ pub record Stream (xs : List ℕ) (m : Message) : Type 0 where
   pub bytes : (these signature ▷ any 2 ▷ run frame-bytes frames) xs
   pub right : All Right frames
   pub order : In-order frames
-  pub tells : message-of (map entry frames) ≡ m
+  pub tells : Tells frames order m
 
 -- Streams are read exactly where the grammar tells them.
 abbrev pub By-grammar : Type 0
