@@ -23,6 +23,8 @@ use Rattle.property.specs.Writing.{write-key, write-values, write-property, wri
 use Rattle.stream.specs.Reading.{meant-as, entries-from, entries-at, entries-of}
 use Rattle.stream.specs.Messages.{Message, or-else, first, properties-of, rows-of, primary-of, message-part, attachment-parts, read}
 use Rattle.stream.specs.Writing.{write-entry, attribute-entries, entries-in, written}
+use Rattle.contents.specs.Calendar.{weekday, days-before}
+use Rattle.contents.specs.Classes.{pair-number}
 use Rattle.message.specs.Examples.{Examples}
 
 abbrev holding-none : (ℕ → Option Contents) → Message
@@ -36,7 +38,7 @@ none-told false true = refl
 none-told false false = refl
 
 pub examples : Examples
-unfolding le val part _>>=_ _>>_ header head-at head-judged sum-judged frame-at next-frame attribute-of meant-as entries-from entries-at entries-of first properties-of rows-of primary-of message-part attachment-parts read means normal before-zero exactly is-text16 field number-at sized repeated whole name-string name-number name key-at fixed-value sized-value fixed-values sized-values values-at property-from property-at list-at table-at property-list recipient-table shape-of filled write-key write-values write-property write-list write-table write-entry attribute-entries entries-in written
+unfolding le val part _>>=_ _>>_ weekday days-before pair-number header head-at head-judged sum-judged frame-at next-frame attribute-of meant-as entries-from entries-at entries-of first properties-of rows-of primary-of message-part attachment-parts read means normal before-zero exactly is-text16 field number-at sized repeated whole name-string name-number name key-at fixed-value sized-value fixed-values sized-values values-at property-from property-at list-at table-at property-list recipient-table shape-of filled write-key write-values write-property write-list write-table write-entry attribute-entries entries-in written
 examples = record {
   smallest-read = ap (λ held. Ok (holding-none held)) (fun-ext (λ i. none-told (eqb version-id i) (eqb code-page-id i)));
   smallest-written = refl;
@@ -46,4 +48,5 @@ examples = record {
   written-anew = refl;
   stays = refl;
   left-over = refl;
+  meeting = refl;
 }

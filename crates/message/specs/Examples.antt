@@ -10,6 +10,7 @@ use Rattle.source.specs.Outcome.{Outcome, over, refused}
 use Rattle.source.specs.declared.refusals.Reason.the-variants.{StreamEnd, Checksum, LeftOver}
 use Rattle.attribute.specs.Table.{message-properties-id}
 use Rattle.contents.specs.Contents.{Contents, text}
+use Rattle.message.specs.Meeting.{meeting-response, meeting-form}
 use Rattle.stream.specs.Messages.{Message, read}
 use Rattle.stream.specs.Writing.{write-frame, written}
 
@@ -52,3 +53,5 @@ pub record Examples : Type 0 where
   pub stays : over written (read (with-list normal-list)) ≡ Ok (with-list normal-list)
   -- The data of a list end with it.
   pub left-over : read (with-list (normal-list ++ 0 ∷ [])) ≡ refused LeftOver 141
+  -- A published stream: its attributes are written by rising id.
+  pub meeting : over written (read meeting-response) ≡ Ok meeting-form

@@ -1,4 +1,5 @@
 pub mod Sameness
 pub mod Grammar
 pub mod Promise
+pub mod Meeting
 pub mod Examples
