@@ -12,35 +12,18 @@ use attribute::name_of;
 use frame::Frame;
 use frame::Stage;
 use frame::header;
+use input::read_past;
 use source::Held;
 use source::HeldSource;
 use source::RefusalDisplay;
 use source::SOURCE_LIMIT;
 use source::Source;
-use std::alloc::Global;
 use std::env;
 use std::fs::File;
 use std::io;
 use std::io::BufWriter;
-use std::io::Read;
 use std::io::Write;
 use stream::next_judged;
-
-const CHUNK: usize = 65_536;
-
-// All that a reader gives, or as much as shows that it is too long for a source.
-fn input<R: Read>(reader: &mut R, heap: Global) -> io::Result<Vec<u8>> {
-    let mut bytes = Vec::new(heap);
-    let mut chunk = [0u8; CHUNK];
-    for _ in 0..u64::MAX {
-        let n = reader.read(&mut chunk)?;
-        if n == 0 || bytes.len() > SOURCE_LIMIT {
-            break;
-        }
-        bytes.extend_from_slice(&chunk[0..n])?;
-    }
-    Ok(bytes)
-}
 
 // Every checksum but a class's is compared with the sum of the data.
 fn compared(attribute: Attribute) -> &'static str {
@@ -129,15 +112,19 @@ fn main(rt: LibcRuntime) -> io::Result<()> {
     for name in env::args(&rt)?.skip(1) {
         files = files.saturating_add(1);
         let bytes = if name.as_str() == "-" {
-            input(&mut rt.stdin(), rt.alloc())?
+            read_past(&mut rt.stdin(), SOURCE_LIMIT, rt.alloc())?
         } else {
-            input(&mut File::open(&rt, name.as_str())?, rt.alloc())?
+            read_past(
+                &mut File::open(&rt, name.as_str())?,
+                SOURCE_LIMIT,
+                rt.alloc(),
+            )?
         };
         writeln!(out, "{name}:")?;
         print_stream(&mut out, bytes.as_slice())?;
     }
     if files == 0 {
-        let bytes = input(&mut rt.stdin(), rt.alloc())?;
+        let bytes = read_past(&mut rt.stdin(), SOURCE_LIMIT, rt.alloc())?;
         print_stream(&mut out, bytes.as_slice())?;
     }
     out.flush()
