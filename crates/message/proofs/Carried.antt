@@ -136,8 +136,7 @@ module _ (ls : List Attribute) (fs : List Laid) (all : All (Among ls) fs) where
       let ((id, pl), (fine, has)) = earliest-is (With-id i) (Among ls) fs f all e in
       let is : means (f .attribute .rule) (f .bytes) ≡ Some c = told-contents f c (fine .right) pl m in
       let short : length (f .bytes) ≤ source-limit = fine .short in
-      let (again, long) = normal-means (f .attribute .rule) (f .bytes) c (fine .octets) is in
-      (
+      let (again, long) = normal-means (f .attribute .rule) (f .bytes) c (fine .octets) is in (
         f .attribute,
         ap attribute-of (sym id) ∙ fine .right .known,
         ap (λ j. has-id j ls) (sym id) ∙ has pl,
@@ -197,8 +196,7 @@ attachments-well [] (h ∷ hs) begun fine w = absurd w
 attachments-well (a ∷ ls) [] begun fine w = absurd w
 attachments-well (a ∷ ls) (h ∷ hs) begun fine w =
     let (here, later) = all-parts Fine (attached a) (joined attached ls) fine in
-    let (more, long) = attachments-well ls hs (begun .1) later (w .1) in
-    (
+    let (more, long) = attachments-well ls hs (begun .1) later (w .1) in (
       (
         record {
           holds = holding-well of-attachments (attached a) (attached-among a (begun .0) here) h (w .0);
