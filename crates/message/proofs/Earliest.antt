@@ -82,13 +82,13 @@ contents-sorted i f right =
     here t rows is (c, e, same) = inr (λ p. (let z : _≡_ {A = ℕ} 0 1 = cc (p .1) in omega arith), under t None (ap as-contents same))
     here t properties is (c, e, same) = inr (λ p. (let z : _≡_ {A = ℕ} 0 1 = cc (p .1) in omega arith), under t None (ap as-contents same))
 
-abbrev lists : Entry → Option (List Property)
+abbrev pub lists : Entry → Option (List Property)
 lists e = as-list (e .meant)
 
-abbrev tables : Entry → Option (List (List Property))
+abbrev pub tables : Entry → Option (List (List Property))
 tables e = as-table (e .meant)
 
-abbrev primaries : Entry → Option ℕ
+abbrev pub primaries : Entry → Option ℕ
 primaries e = as-primary (e .meant)
 
 lists-sorted : (f : Laid) → Right f → Sorted lists (Of-nature properties) list f
@@ -182,6 +182,10 @@ page-told f right n = go (nature (f .attribute .rule)) n (right .admitted)
     go rows e w = absurd (let z : _≡_ {A = ℕ} 0 1 = cc in omega arith)
     go properties e w = absurd (let z : _≡_ {A = ℕ} 0 1 = cc in omega arith)
 
+pub same-message : {p q : ℕ} {h k : Holding} {r s : List (List Property)} {x y : List Holding} → p ≡ q → h ≡ k → r ≡ s → x ≡ y →
+    _≡_ {A = Message} (record { primary = p; own = h; rows = r; attachments = x }) (record { primary = q; own = k; rows = s; attachments = y })
+same-message a b c d = cc
+
 module _ (fs : List Laid) (o : In-order fs) (right : All Right fs) where
   targets : By-target fs o
   targets = by-target fs o right
@@ -254,8 +258,4 @@ module _ (fs : List Laid) (o : In-order fs) (right : All Right fs) where
       let c : rows-of (message-part (map entry fs)) ≡ m .rows =
       rows-told (w .rowed) (told-is tables (Of-nature rows) table table-apart tables-sorted (o .own) (w .rowed) own-right (w .rowed-told)) ∙ sym (w .rows-are) in
       let d : map holding-of (attachment-parts (map entry fs)) ≡ m .attachments = ap (map holding-of) (targets .parts) ∙ each-told (o .attachments) (m .attachments) (targets .attached-right) (w .attachments-hold) in
-      make a b c d
-    where
-      make : {p q : ℕ} {h k : Holding} {r s : List (List Property)} {x y : List Holding} → p ≡ q → h ≡ k → r ≡ s → x ≡ y →
-          _≡_ {A = Message} (record { primary = p; own = h; rows = r; attachments = x }) (record { primary = q; own = k; rows = s; attachments = y })
-      make a b c d = cc
+      same-message a b c d

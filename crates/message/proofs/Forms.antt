@@ -34,7 +34,7 @@ use Rattle.message.proofs.Laying.{Good, Laid-as, good-laid, Well, Well-attachm
 use Rattle.message.proofs.Telling.{message-back}
 use Rattle.message.proofs.Orders.{allowed-ordered}
 use Rattle.message.proofs.FrameReads.{entry}
-use Rattle.message.proofs.Earliest.{tells}
+use Rattle.message.proofs.Earliest.{tells, same-message}
 use Rattle.message.proofs.Streams.{by-grammar}
 use Rattle.message.proofs.Carried.{stream-well}
 
@@ -143,11 +143,7 @@ same-equal m n v w s =
     let d : m .attachments ≡ n .attachments =
     holdings-equal (m .attachments) (n .attachments) (s .attachments) (v .attachments-well) (w .attachments-well)
     (λ r. s .contents (to-attachment r)) (λ r. s .properties (to-attachment r)) (λ r. s .order (to-attachment r)) in
-    make a b c d
-  where
-    make : {p q : ℕ} {h k : Holding} {r s : List (List Property)} {x y : List Holding} → p ≡ q → h ≡ k → r ≡ s → x ≡ y →
-        _≡_ {A = Message} (record { primary = p; own = h; rows = r; attachments = x }) (record { primary = q; own = k; rows = s; attachments = y })
-    make a b c d = cc
+    same-message a b c d
 
 pub equal-same : (m n : Message) → m ≡ n → Same m n
 equal-same m n e = rw e (record { primary = refl; rows = refl; attachments = refl; contents = λ t i. refl; properties = λ t k. refl; order = λ t. refl })

@@ -2,7 +2,7 @@
 use Prim.Native.Nat.{ℕ, zero, suc, _+_, _-_, _<_, _≤_}
 use mathlib.Core.Path.{_≡_, refl, ap, sym, _∙_}
 use mathlib.Core.Logic.{inl, inr, _⊎_}
-use mathlib.Core.Bool.{true, _&&_, _||_}
+use mathlib.Core.Bool.{Bool, true, false, _&&_, _||_}
 use mathlib.Core.List.{List, [], _∷_, _++_, map}
 use native.Mathlib.Omega.{arith}
 use native.Mathlib.Nat.{add-assoc}
@@ -13,7 +13,7 @@ use Rattle.std.specs.declared.option.Option.the-variants.{Some, None}
 use Rattle.std.specs.declared.result.Result.the-variants.{Ok, Err}
 use Rattle.std.specs.shelf.Lists.{All}
 use Rattle.std.proofs.shelf.Lists.{append-assoc, length-append, length-drop, drop-drop, drop-all, drop-more, take-append-drop}
-use Rattle.std.proofs.shelf.Tests.{eqb-true, eq-eqb, ne-eqb, and-parts, cases-bool, le-leb, leb-true, lt-ltb, ltb-true}
+use Rattle.std.proofs.shelf.Tests.{eqb-true, eq-eqb, ne-eqb, and-parts, cases-bool, both-ways, le-leb, leb-true, lt-ltb, ltb-true}
 use Rattle.source.specs.declared.refusals.Refusal.{Refusal}
 use Rattle.source.specs.Bytes.{val, part}
 use Rattle.source.specs.Outcome.{Outcome, _>>=_, _>>_}
@@ -55,6 +55,15 @@ meant-gives opening r xs base size m fits e = let (c, is, same) = over-ok _ _ _ 
 meant-gives page r xs base size m fits e = let (c, is, same) = over-ok _ _ _ e in (c, given-ok _ _ _ _ is, sym same)
 meant-gives rows r xs base size m fits e = let (rs, is, same) = over-ok _ _ _ e in (rs, table-told xs base size rs fits .0 is, sym same)
 meant-gives properties r xs base size m fits e = let (ps, is, same) = over-ok _ _ _ e in (ps, list-told xs base size ps fits .0 is, sym same)
+
+-- A checksum that is compared but for classes.
+sum-tested : (b : Bool) (m n : ℕ) → (b ≡ false → m ≡ n) → (b || eqb m n) ≡ true
+sum-tested true m n h = refl
+sum-tested false m n h = eq-eqb m n (h refl)
+
+sum-told : (b : Bool) (m n : ℕ) → (b || eqb m n) ≡ true → b ≡ false → m ≡ n
+sum-told true m n e no′ = absurd (both-ways true no′ refl)
+sum-told false m n e no′ = eqb-true m n e
 
 -- What stands at p, where a frame is laid.
 record Stands (xs : List ℕ) (p : ℕ) (f : Laid) (bs : List ℕ) : Type 0 where
@@ -124,7 +133,7 @@ frame-back xs p s t f bs st ok go =
       le-leb (p + 9 + length (f .bytes) + 2) (length xs) (omega arith),
       st .sum-is,
       st .data-is,
-      ok .sum-right,
+      sum-tested (is-class (f .attribute .rule)) (f .sum) (checksum (f .bytes)) (ok .sum-right),
       next,
     )
 
@@ -292,7 +301,7 @@ module _ (xs : List ℕ) (p : ℕ) (s : Stage) (f : Frame) (w : Was xs p s f) wh
       record {
         known = ap attribute-of id ∙ w .known;
         short = omega arith;
-        sum-right = rw here (w .sum-right);
+        sum-right = sum-told (is-class (f .attribute .rule)) (f .checksum) _ (rw here (w .sum-right));
         admitted = meant-gives (nature (f .attribute .rule)) (f .attribute .rule) xs (f .place + 9) (f .size) m (omega arith) e;
       }
 

@@ -17,35 +17,36 @@ use Rattle.frame.specs.Stages.{Role, of-message, of-attachment}
 use Rattle.contents.specs.Contents.{Contents}
 use Rattle.property.specs.Lists.{Property, indexed}
 use Rattle.stream.specs.Reading.{version, primary, contents, Entry}
-use Rattle.stream.specs.Messages.{Message, Holding, or-else, or-default, first, as-list, as-table, as-primary, contents-under, properties-of, rows-of, primary-of, holding-of, message-part, attachment-parts, message-of}
+use Rattle.stream.specs.Messages.{Message, Holding, or-else, or-default, first, contents-under, properties-of, rows-of, primary-of, holding-of, message-part, attachment-parts, message-of}
 use Rattle.stream.specs.Writing.{found, attribute-entries, list-entries, table-entries, message-entries, attachment-entries, entries-in}
 use Rattle.message.proofs.Indexing.{Apart-keys, Well-list, indexed-same}
+use Rattle.message.proofs.Earliest.{lists, tables, same-message}
 use Rattle.message.proofs.Laying.{Placed, message-places, attachment-places, Known, Well-attachment, Well, one}
 
 -- What the entries tell.
-first-append : {A : Type 0} (g : Entry → Option A) (fs gs : List Entry) → first g (fs ++ gs) ≡ or-else (first g fs) (first g gs)
+first-append : {A : Type 0} (g : Entry → Option A) (es ds : List Entry) → first g (es ++ ds) ≡ or-else (first g es) (first g ds)
 unfolding first
-first-append g [] gs = refl
-first-append g (f ∷ fs) gs = rw (first-append g fs gs) (or-assoc (g f) (first g fs) (first g gs))
+first-append g [] ds = refl
+first-append g (f ∷ es) ds = rw (first-append g es ds) (or-assoc (g f) (first g es) (first g ds))
   where
     or-assoc : {A : Type 0} (a b c : Option A) → or-else a (or-else b c) ≡ or-else (or-else a b) c
     or-assoc (Some a) b c = refl
     or-assoc None b c = refl
 
-mute-append : {A : Type 0} (g : Entry → Option A) (fs gs : List Entry) → first g fs ≡ None → first g (fs ++ gs) ≡ first g gs
-mute-append g fs gs e = rw (first-append g fs gs, e)
+mute-append : {A : Type 0} (g : Entry → Option A) (es ds : List Entry) → first g es ≡ None → first g (es ++ ds) ≡ first g ds
+mute-append g es ds e = rw (first-append g es ds, e)
 
-mute-after : {A : Type 0} (g : Entry → Option A) (fs gs : List Entry) → first g gs ≡ None → first g (fs ++ gs) ≡ first g fs
-mute-after g fs gs e = rw (first-append g fs gs, e) (or-none (first g fs))
+mute-after : {A : Type 0} (g : Entry → Option A) (es ds : List Entry) → first g ds ≡ None → first g (es ++ ds) ≡ first g es
+mute-after g es ds e = rw (first-append g es ds, e) (or-none (first g es))
   where
     or-none : {A : Type 0} (o : Option A) → or-else o None ≡ o
     or-none (Some a) = refl
     or-none None = refl
 
-mute-attributes : {A : Type 0} (g : Entry → Option A) → ((i : ℕ) (c : Contents) → g (one i (contents c)) ≡ None) → (es : List Attribute) (held : ℕ → Option Contents) → first g (attribute-entries es held) ≡ None
+mute-attributes : {A : Type 0} (g : Entry → Option A) → ((i : ℕ) (c : Contents) → g (one i (contents c)) ≡ None) → (ls : List Attribute) (held : ℕ → Option Contents) → first g (attribute-entries ls held) ≡ None
 unfolding attribute-entries first
 mute-attributes g mute [] held = refl
-mute-attributes g mute (e ∷ es) held = mute-append g _ _ (at-found (held (e .id))) ∙ mute-attributes g mute es held
+mute-attributes g mute (e ∷ ls) held = mute-append g _ _ (at-found (held (e .id))) ∙ mute-attributes g mute ls held
   where
     at-found : (o : Option Contents) → first g (found (e .id) o) ≡ None
     at-found None = refl
@@ -68,15 +69,15 @@ mute-none : (i : ℕ) → first (contents-under i) [] ≡ None
 unfolding first
 mute-none i = refl
 
-attributes-tell : (es : List Attribute) (held : ℕ → Option Contents) (i : ℕ) → first (contents-under i) (attribute-entries es held) ≡ cond (has-id i es) (held i) None
+attributes-tell : (ls : List Attribute) (held : ℕ → Option Contents) (i : ℕ) → first (contents-under i) (attribute-entries ls held) ≡ cond (has-id i ls) (held i) None
 unfolding attribute-entries
 attributes-tell [] held i = mute-none i
-attributes-tell (e ∷ es) held i =
-    first-append (contents-under i) (found (e .id) (held (e .id))) (attribute-entries es held)
-    ∙ rw (found-tells (e .id) i (held (e .id)), attributes-tell es held i) (here (cases-bool (eqb (e .id) i)))
+attributes-tell (e ∷ ls) held i =
+    first-append (contents-under i) (found (e .id) (held (e .id))) (attribute-entries ls held)
+    ∙ rw (found-tells (e .id) i (held (e .id)), attributes-tell ls held i) (here (cases-bool (eqb (e .id) i)))
   where
-    here : (eqb (e .id) i ≡ true) ⊎ (eqb (e .id) i ≡ false) → or-else (cond (eqb (e .id) i) (held (e .id)) None) (cond (has-id i es) (held i) None) ≡ cond (eqb (e .id) i || has-id i es) (held i) None
-    here (inl t) = rw (t, eqb-true (e .id) i t) (either (held i) (has-id i es))
+    here : (eqb (e .id) i ≡ true) ⊎ (eqb (e .id) i ≡ false) → or-else (cond (eqb (e .id) i) (held (e .id)) None) (cond (has-id i ls) (held i) None) ≡ cond (eqb (e .id) i || has-id i ls) (held i) None
+    here (inl t) = rw (t, eqb-true (e .id) i t) (either (held i) (has-id i ls))
       where
         either : (o : Option Contents) (b : Bool) → or-else o (cond b o None) ≡ o
         either (Some c) b = refl
@@ -84,25 +85,16 @@ attributes-tell (e ∷ es) held i =
         either None false = refl
     here (inr f) = rw f
 
-known-tells : (es : List Attribute) (held : ℕ → Option Contents) → Known es held → (i : ℕ) → cond (has-id i es) (held i) None ≡ held i
-known-tells es held known i = go (held i) refl
+known-tells : (ls : List Attribute) (held : ℕ → Option Contents) → Known ls held → (i : ℕ) → cond (has-id i ls) (held i) None ≡ held i
+known-tells ls held known i = go (held i) refl
   where
-    go : (o : Option Contents) → held i ≡ o → cond (has-id i es) o None ≡ o
+    go : (o : Option Contents) → held i ≡ o → cond (has-id i ls) o None ≡ o
     go (Some c) is = rw (known i c is .2)
-    go None is = empty (has-id i es)
+    go None is = empty (has-id i ls)
       where
         empty : (b : Bool) → _≡_ {A = Option Contents} (cond b None None) None
         empty true = refl
         empty false = refl
-
-abbrev lists : Entry → Option (List Property)
-lists f = as-list (f .meant)
-
-abbrev tables : Entry → Option (List (List Property))
-tables f = as-table (f .meant)
-
-abbrev primaries : Entry → Option ℕ
-primaries f = as-primary (f .meant)
 
 list-mute : (i j : ℕ) (ps : List Property) → first (contents-under i) (list-entries j ps) ≡ None
 unfolding first
@@ -119,39 +111,39 @@ list-tells j [] = refl
 list-tells j (p ∷ ps) = refl
 
 -- What entries in this order hold.
-module _ (pre mid : List Entry) (es : List Attribute) (held : ℕ → Option Contents) (j : ℕ) (ps : List Property) where
+module _ (pre mid : List Entry) (ls : List Attribute) (held : ℕ → Option Contents) (j : ℕ) (ps : List Property) where
   holding-is : ((i : ℕ) → first (contents-under i) pre ≡ None) → first lists pre ≡ None → ((i : ℕ) → first (contents-under i) mid ≡ None) → first lists mid ≡ None →
-      Known es held → Apart-keys ps → holding-of (pre ++ (attribute-entries es held ++ (mid ++ list-entries j ps))) ≡ record { attributes = held; properties = ps }
+      Known ls held → Apart-keys ps → holding-of (pre ++ (attribute-entries ls held ++ (mid ++ list-entries j ps))) ≡ record { attributes = held; properties = ps }
   unfolding properties-of
   holding-is a b c d known apart =
-      let fs = pre ++ (attribute-entries es held ++ (mid ++ list-entries j ps)) in
-      let at : (i : ℕ) → first (contents-under i) fs ≡ held i = λ i.
+      let es = pre ++ (attribute-entries ls held ++ (mid ++ list-entries j ps)) in
+      let at : (i : ℕ) → first (contents-under i) es ≡ held i = λ i.
       mute-append (contents-under i) pre _ (a i)
-      ∙ mute-after (contents-under i) (attribute-entries es held) _ (mute-append (contents-under i) mid _ (c i) ∙ list-mute i j ps)
-      ∙ attributes-tell es held i ∙ known-tells es held known i in
-      let told : first lists fs ≡ first lists (list-entries j ps) =
-      mute-append lists pre _ b ∙ mute-append lists (attribute-entries es held) _ (mute-attributes lists (λ i c. refl) es held) ∙ mute-append lists mid _ d in
-      let props : properties-of fs ≡ ps = ap (λ o. indexed (or-default o [])) told ∙ ap indexed (list-tells j ps) ∙ indexed-same ps apart in
-      ap (λ f. record { attributes = f; properties = properties-of fs }) (fun-ext at) ∙ ap (λ l. record { attributes = held; properties = l }) props
+      ∙ mute-after (contents-under i) (attribute-entries ls held) _ (mute-append (contents-under i) mid _ (c i) ∙ list-mute i j ps)
+      ∙ attributes-tell ls held i ∙ known-tells ls held known i in
+      let told : first lists es ≡ first lists (list-entries j ps) =
+      mute-append lists pre _ b ∙ mute-append lists (attribute-entries ls held) _ (mute-attributes lists (λ i c. refl) ls held) ∙ mute-append lists mid _ d in
+      let props : properties-of es ≡ ps = ap (λ o. indexed (or-default o [])) told ∙ ap indexed (list-tells j ps) ∙ indexed-same ps apart in
+      ap (λ f. record { attributes = f; properties = properties-of es }) (fun-ext at) ∙ ap (λ l. record { attributes = held; properties = l }) props
 
 -- Where attachments begin.
 abbrev Plain : List Entry → Type 0
-Plain fs = All (λ f. eqb (f .id) rendering-id ≡ false) fs
+Plain es = All (λ f. eqb (f .id) rendering-id ≡ false) es
 
-part-append : (fs gs : List Entry) → Plain fs → message-part (fs ++ gs) ≡ fs ++ message-part gs
+part-append : (es ds : List Entry) → Plain es → message-part (es ++ ds) ≡ es ++ message-part ds
 unfolding message-part
-part-append [] gs pl = refl
-part-append (f ∷ fs) gs pl = rw (pl .0, part-append fs gs (pl .1))
+part-append [] ds pl = refl
+part-append (f ∷ es) ds pl = rw (pl .0, part-append es ds (pl .1))
 
-parts-append : (fs gs : List Entry) → Plain fs → attachment-parts (fs ++ gs) ≡ attachment-parts gs
+parts-append : (es ds : List Entry) → Plain es → attachment-parts (es ++ ds) ≡ attachment-parts ds
 unfolding attachment-parts
-parts-append [] gs pl = refl
-parts-append (f ∷ fs) gs pl = rw (pl .0) (parts-append fs gs (pl .1))
+parts-append [] ds pl = refl
+parts-append (f ∷ es) ds pl = rw (pl .0) (parts-append es ds (pl .1))
 
-plain-attributes : (r : Role) (es : List Attribute) (held : ℕ → Option Contents) → All (Placed r) es → Plain (attribute-entries es held)
+plain-attributes : (r : Role) (ls : List Attribute) (held : ℕ → Option Contents) → All (Placed r) ls → Plain (attribute-entries ls held)
 unfolding attribute-entries
 plain-attributes r [] held pl = tt
-plain-attributes r (e ∷ es) held pl = all-append _ (found (e .id) (held (e .id))) _ (at-found (held (e .id)) (pl .0 .4)) (plain-attributes r es held (pl .1))
+plain-attributes r (e ∷ ls) held pl = all-append _ (found (e .id) (held (e .id))) _ (at-found (held (e .id)) (pl .0 .4)) (plain-attributes r ls held (pl .1))
   where
     at-found : (o : Option Contents) → eqb (e .id) rendering-id ≡ false → Plain (found (e .id) o)
     at-found None is = tt
@@ -299,11 +291,7 @@ attachments-are m w =
 
 pub message-back : (m : Message) → Well m → message-of (entries-in m) ≡ m
 message-back m w =
-    let fs = entries-in m in
-    let a : holding-of (message-part fs) ≡ m .own = ap holding-of (own-part m w) ∙ own-is m w in
-    let b : rows-of (message-part fs) ≡ m .rows = ap rows-of (own-part m w) ∙ rows-are m w in
-    make (primary-told m) a b (attachments-are m w)
-  where
-    make : {p q : ℕ} {h k : Holding} {r s : List (List Property)} {x y : List Holding} → p ≡ q → h ≡ k → r ≡ s → x ≡ y →
-        _≡_ {A = Message} (record { primary = p; own = h; rows = r; attachments = x }) (record { primary = q; own = k; rows = s; attachments = y })
-    make a b c d = cc
+    let es = entries-in m in
+    let a : holding-of (message-part es) ≡ m .own = ap holding-of (own-part m w) ∙ own-is m w in
+    let b : rows-of (message-part es) ≡ m .rows = ap rows-of (own-part m w) ∙ rows-are m w in
+    same-message (primary-told m) a b (attachments-are m w)

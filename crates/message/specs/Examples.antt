@@ -3,13 +3,12 @@ use mathlib.Core.Path.{_≡_}
 use mathlib.Core.List.{List, [], _∷_, _++_}
 use Prim.Native.Nat.{ℕ}
 use lib.ListN.{take}
-use Rattle.std.specs.declared.option.Option.{Option}
 use Rattle.std.specs.declared.option.Option.the-variants.{Some, None}
-use Rattle.std.specs.declared.result.Result.the-variants.{Ok, Err}
-use Rattle.source.specs.Outcome.{Outcome, over, refused}
+use Rattle.std.specs.declared.result.Result.the-variants.{Ok}
+use Rattle.source.specs.Outcome.{over, refused}
 use Rattle.source.specs.declared.refusals.Reason.the-variants.{StreamEnd, Checksum, LeftOver}
 use Rattle.attribute.specs.Table.{message-properties-id}
-use Rattle.contents.specs.Contents.{Contents, text}
+use Rattle.contents.specs.Contents.{text}
 use Rattle.message.specs.Meeting.{meeting-response, meeting-form}
 use Rattle.stream.specs.Messages.{Message, read}
 use Rattle.stream.specs.Writing.{write-frame, written}

@@ -2,9 +2,8 @@
 use mathlib.Core.Path.{_≡_}
 use mathlib.Core.Logic.{_↔_, _⊎_}
 use mathlib.Core.List.{List, [], _∷_, _++_, map}
-use mathlib.Core.Bool.{Bool, true, false, cond, _||_}
+use mathlib.Core.Bool.{Bool, true, false}
 use Prim.Native.Nat.{ℕ, _-_, _<_, _≤_}
-use lib.Dec.{eqb}
 use lib.ListN.{length}
 use Rattle.std.specs.shelf.Lists.{All, joined}
 use Rattle.std.specs.declared.option.Option.{Option}
@@ -79,7 +78,7 @@ fixed-bytes k w v bs = (s : List ℕ) × (length s ≡ w) × (v ≡ value k s) �
 abbrev pub sized-bytes : Kind → Value → List ℕ → Type 0
 sized-bytes k v bs = (s : List ℕ) × (admits k s ≡ true) × (v ≡ value k s) × sizing s bs
 
--- How many values a type may have: one, or several, of which some stand behind their sizes.
+-- How many values stand behind their sizes: one under a type of one value, at least one under a type of several.
 abbrev pub Many : Bool → ℕ → Type 0
 Many true n = 1 ≤ n
 Many false n = n ≡ 1
@@ -126,7 +125,7 @@ frame-bytes f =
 pub record Right (f : Laid) : Type 0 where
   pub known : attribute-of (f .attribute .id) ≡ Some (f .attribute)
   pub short : length (f .bytes) < 0x80000000
-  pub sum-right : (is-class (f .attribute .rule) || eqb (f .sum) (checksum (f .bytes))) ≡ true
+  pub sum-right : is-class (f .attribute .rule) ≡ false → f .sum ≡ checksum (f .bytes)
   pub admitted : Data-mean (nature (f .attribute .rule)) (f .attribute .rule) (f .bytes) (f .meant)
 
 -- A frame is of a role: the version, the code page, the message's, a rendering, an attachment's.

@@ -1,7 +1,7 @@
 -- What written forms promise.
 use mathlib.Core.Path.{_≡_}
 use mathlib.Core.Logic.{_↔_}
-use Prim.Native.Nat.{ℕ, _+_, _<_}
+use Prim.Native.Nat.{_+_, _<_}
 use lib.ListN.{length}
 use Rattle.std.specs.shelf.Lists.{All, sumBy}
 use Rattle.source.specs.Bytes.{Octets}

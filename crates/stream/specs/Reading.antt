@@ -4,7 +4,7 @@ use Prim.Native.Nat.{ℕ, zero, suc, _+_}
 use lib.ListN.{length}
 use Rattle.std.specs.declared.option.Option.{Option}
 use Rattle.std.specs.declared.option.Option.the-variants.{Some, None}
-use Rattle.std.specs.declared.result.Result.the-variants.{Ok, Err}
+use Rattle.std.specs.declared.result.Result.the-variants.{Ok}
 use Rattle.source.specs.Bytes.{part}
 use Rattle.source.specs.Outcome.{Outcome, _>>=_, _>>_, given, over, refused}
 use Rattle.source.specs.declared.refusals.Reason.the-variants.{StreamEnd, NotAdmitted}
