@@ -1,0 +1,3 @@
+// The written form of what a stream carries.
+mod framing;
+mod targets;
