@@ -1,0 +1,4 @@
+pub mod Framings
+pub mod Gathers
+pub mod Holds
+pub mod Walks
