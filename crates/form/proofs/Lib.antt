@@ -1,4 +1,11 @@
+pub mod Beginnings
+pub mod Forms
+pub mod Found
 pub mod Framings
 pub mod Gathers
 pub mod Holds
+pub mod Natures
+pub mod Pages
+pub mod Restated
+pub mod Tells
 pub mod Walks
