@@ -118,7 +118,7 @@ begins xs g =
     let first : row-entry xs (frame-row f) ≡ record { id = version-id; meant = version } = entry-is _ _ _ i v in
     let second : row-entry xs (frame-row t) ≡ record { id = code-page-id; meant = primary n } = entry-is _ _ _ r w in
     let rest : remaining xs (f .next) (f .stage) ≡ record { id = code-page-id; meant = primary n } ∷ remaining xs (t .next) (t .stage)
-        = ap (remaining xs (f .next)) b ∙ j .more ∙ ap (λ e. e ∷ remaining xs (t .next) (t .stage)) second in
+    = ap (remaining xs (f .next)) b ∙ j .more ∙ ap (λ e. e ∷ remaining xs (t .next) (t .stage)) second in
     (n, remaining xs (t .next) (t .stage), k .more ∙ ap (λ e. e ∷ remaining xs (f .next) (f .stage)) first ∙ ap (λ l. record { id = version-id; meant = version } ∷ l) rest)
 
 -- The attachments stand behind the next rendering.

@@ -236,7 +236,7 @@ module _ (xs : List ℕ) (es : List Entry) (rs : List AttributeRow) (g : Gathere
   -- The frames of a message.
   pub message-same : All (λ e. level-of (e .id) ≡ 1) es
       → message-bytes xs rs ≡ joined write-entry (attribute-entries message-attributes (λ i. first (contents-under i) es)
-          ++ (table-entries (rows-of es) ++ list-entries message-properties-id (properties-of es)))
+      ++ (table-entries (rows-of es) ++ list-entries message-properties-id (properties-of es)))
   unfolding message-bytes table-bytes list-bytes rows-of properties-of attribute-of
   message-same level =
       rw (all-same message-attributes message-plain, table-same, list-same 1 refl level)

@@ -41,7 +41,27 @@ const HEADER_SIZE: usize = 6;
 
 // The header with the key 01 00, and the frame of the version.
 const FRONT: [u8; 21] = [
-    0x78, 0x9F, 0x3E, 0x22, 1, 0, 1, 0x06, 0x90, 0x08, 0, 4, 0, 0, 0, 0, 0, 1, 0, 1, 0,
+    0x78,
+    0x9F,
+    0x3E,
+    0x22,
+    1,
+    0,
+    1,
+    0x06,
+    0x90,
+    0x08,
+    0,
+    4,
+    0,
+    0,
+    0,
+    0,
+    0,
+    1,
+    0,
+    1,
+    0,
 ];
 
 const CODE_PAGE: Attribute = Attribute {

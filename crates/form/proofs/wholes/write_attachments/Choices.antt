@@ -12,7 +12,7 @@ Inv-loop-place g l =
     × Readable (meaning (g .S·Source .content (l .entry .source))) (l .place) (l .stage)
     × Rendered (remaining (meaning (g .S·Source .content (l .entry .source))) (l .place) (l .stage))
     × Leads (l .entry .out) (l .entry .here) (all-attached (remaining (meaning (g .S·Source .content (l .entry .source))) (l .entry .place) (l .entry .stage)))
-        (l .out) (l .here) (all-attached (remaining (meaning (g .S·Source .content (l .entry .source))) (l .place) (l .stage)))
+    (l .out) (l .here) (all-attached (remaining (meaning (g .S·Source .content (l .entry .source))) (l .place) (l .stage)))
 
 abbrev pub μ-loop-place : given.MeasureT-loop-place
 μ-loop-place g l = l .total - l .place
