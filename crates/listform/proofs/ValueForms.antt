@@ -23,7 +23,6 @@ use Rattle.property.specs.Kinds.{Value, value, normal, admits, width}
 use Rattle.property.specs.Values.{fixed-value, sized-value, fixed-values, sized-values, values-of, values-at}
 use Rattle.property.specs.Writing.{write-fixed, write-sized, write-values}
 use Rattle.listform.specs.Forms.{number-there, fixed-form, fixed-next, sized-form, sized-next, values-form, Values-fit}
-use Rattle.listform.specs.Walks.{walked, Within}
 use Rattle.listform.proofs.WalkSteps.{repeated-length, walks}
 
 -- Values of a width: yes or no, and bytes that are kept.

@@ -1,7 +1,8 @@
 -- Walks: one step, their end, and that readings in a row are one.
-use Prim.Native.Nat.{ℕ, zero, suc, _≤_}
+use Prim.Native.Nat.{ℕ, zero, suc, _≤_, _<_}
 use mathlib.Core.Path.{_≡_, refl, sym, ap, _∙_}
 use mathlib.Core.List.{List, [], _∷_, _++_}
+use native.Mathlib.Omega.{arith}
 use lib.ListN.{length}
 use Rattle.std.specs.shelf.Lists.{joined}
 use Rattle.std.specs.declared.result.Result.the-variants.{Ok}
@@ -10,9 +11,14 @@ use Rattle.source.proofs.Outcomes.{ok-same, bind-got}
 use Rattle.property.specs.Fields.{At, at, repeated}
 use Rattle.listform.specs.Walks.{walked, Within}
 
-pub within-more : (last : ℕ) (next : ℕ → ℕ) (n m p q : ℕ) → n ≡ suc m → q ≡ next p → Within last next n p → (next p ≤ last) × Within last next m q
+pub within-now : (last : ℕ) (next : ℕ → ℕ) (n p : ℕ) → 0 < n → Within last next n p → next p ≤ last
 unfolding Within
-within-more last next n m p q e f w = rw f (rw e at w)
+within-now last next zero p h w = absurd (omega arith)
+within-now last next (suc n) p h w = w .0
+
+pub within-more : (last : ℕ) (next : ℕ → ℕ) (n m p q : ℕ) → n ≡ suc m → q ≡ next p → Within last next n p → Within last next m q
+unfolding Within
+within-more last next n m p q e f w = rw f ((rw e at w) .1)
 
 pub walked-more : (one : ℕ → List ℕ) (next : ℕ → ℕ) (n m p q : ℕ) → n ≡ suc m → q ≡ next p → walked one next n p ≡ one p ++ walked one next m q
 unfolding walked

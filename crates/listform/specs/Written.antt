@@ -7,10 +7,14 @@ use Rattle.std.specs.shelf.Lists.{joined}
 use Rattle.std.specs.declared.option.Option.{Option}
 use Rattle.std.specs.declared.result.Result.the-variants.{Ok}
 use Rattle.pen.specs.Pen.{Penned}
-use Rattle.property.specs.Fields.{At, at, repeated}
+use Rattle.property.specs.Fields.{At, repeated}
 use Rattle.property.specs.Lists.{Property, list-limit, list-at, property-list, recipient-table, indexed}
 use Rattle.property.specs.Writing.{write-list, write-table}
 use Rattle.listform.specs.declared.lists.Passed.{Passed}
+
+-- The normal form of a list: each key once, as keys first come.
+abbrev pub form : List Property → List ℕ
+form ps = write-list (indexed ps)
 
 -- Where the data of xs from `base` to `end` are a list, and rows are lent for as many properties as a list can have, exactly
 -- its normal form is written.
@@ -27,10 +31,7 @@ Table-written xs base end room before here after r =
 -- One list at a place, and the place behind it.
 abbrev pub One-written : List ℕ → (place end : ℕ) → List ℕ → Option ℕ → List ℕ → Passed → Type 0
 One-written xs place end before here after r =
-    (a : At (List Property)) → list-at xs end place ≡ Ok a → (r .next ≡ a .next) × Penned before here (write-list (indexed (a .what))) after (r .here)
-
-abbrev pub form : List Property → List ℕ
-form ps = write-list (indexed ps)
+    (a : At (List Property)) → list-at xs end place ≡ Ok a → (r .next ≡ a .next) × Penned before here (form (a .what)) after (r .here)
 
 -- So many lists, one after another.
 abbrev pub All-written : List ℕ → (count place end : ℕ) → List ℕ → Option ℕ → List ℕ → Option ℕ → Type 0

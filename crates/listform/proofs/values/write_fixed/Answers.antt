@@ -1,5 +1,3 @@
-use mathlib.Core.Path.{_≡_}
-use native.Mathlib.Omega.{arith}
 use Rattle.listform.proofs.ValueForms.{normal-flag, normal-bytes, two-wide}
 use Rattle.listform.proofs.values.write_fixed.Needs as need
 
