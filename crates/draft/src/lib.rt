@@ -30,12 +30,21 @@ use source::Reason;
 use source::Refusal;
 use source::Source;
 
+// A row of nothing, which rows of work memory are after every call.
+pub const BLANK_ROW: PropertyRow = PropertyRow {
+    key: PropertyKey::Tag(0),
+    number: 0,
+    values: 0,
+    next: 0,
+};
+
 // Memory that a call works in, and leaves all zero.
 pub struct Work<'a> {
     pub bytes: &'a mut [u8],
     pub rows: &'a mut [PropertyRow],
 }
 
+#[derive(Drop)]
 pub struct Draft<'a> {
     area: &'a mut [u8],
     size: usize,
@@ -44,13 +53,7 @@ pub struct Draft<'a> {
 fn clear(rows: &mut [PropertyRow])
     ensures { λ _. ⌜ now (rows .exit) ≡ replicate (length (now (rows .entry))) blank-row ⌝ }
 {
-    let blank = PropertyRow {
-        key: PropertyKey::Tag(0),
-        number: 0,
-        values: 0,
-        next: 0,
-    };
-    rows.fill(blank);
+    rows.fill(BLANK_ROW);
 }
 
 // Restates the source within the first `room` of the work bytes.

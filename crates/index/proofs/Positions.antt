@@ -45,7 +45,7 @@ module _ {R : Type 0} (same : R → R → Bool) where
         let z = leading-drop-all (λ y. not (same y r)) rows i h in
         rw (← has-before rows r, le-ltb (before same rows r) (length rows) (omega arith))
 
-  position-some : (rows : List R) (r : R) (i : ℕ) → Some i ≡ position same rows r → (has same rows r ≡ true) × (i ≡ before same rows r)
+  pub position-some : (rows : List R) (r : R) (i : ℕ) → Some i ≡ position same rows r → (has same rows r ≡ true) × (i ≡ before same rows r)
   position-some rows r i e =
       elim (cases-bool (has same rows r)) [
         | inl t ↦ let s : Some i ≡ Some (before same rows r) = rw t at e in (t, cc)
