@@ -25,7 +25,7 @@ use Rattle.stream.proofs.Judging.{told}
 use Rattle.message.specs.Sameness.{Same, Carries, Source-bytes}
 use Rattle.message.proofs.Forms.{forms-decide}
 use Rattle.draft.specs.Drafts.{Memory, memory, enough, fitted, loaded, area-after, size-after, blank-row}
-use Rattle.draft.specs.Promise.{Loads-decide, compared, Tells}
+use Rattle.draft.specs.Promise.{Loads-decide, compared, next-load, Tells}
 
 -- A load that is accepted writes the form of what the source carries.
 loaded-got : (w : Memory) (room : ℕ) (xs f : List ℕ) → loaded w room xs ≡ Ok f → (m : Message) × (read xs ≡ Ok m) × (f ≡ written m)
@@ -89,3 +89,33 @@ compared-second (Err x) q u r e d = absurd (err-not-ok (sym e))
 -- Cleared work memory is as much as before.
 pub as-much : (bytes : List ℕ) (rows : List PropertyRow) → memory (replicate (length bytes) 0) (replicate (length rows) blank-row) ≡ memory bytes rows
 as-much bytes rows = rw (length-replicate {A = ℕ} (length bytes) 0, length-replicate (length rows) blank-row)
+
+-- The second draft where its load is not begun, and where it is.
+module _ (o q : Outcome (List ℕ)) where
+  pub area-unbegun : (r : Refusal) (area : List ℕ) → Err r ≡ told o → area ≡ area-after (next-load o q) area
+  area-unbegun r area e = by-first o e
+    where
+      by-first : (p : Outcome (List ℕ)) → Err r ≡ told p → area ≡ area-after (next-load p q) area
+      by-first (Ok f) e = absurd (err-not-ok e)
+      by-first (Err x) e = refl
+
+  pub size-unbegun : (r : Refusal) (n : ℕ) → Err r ≡ told o → n ≡ size-after (next-load o q) n
+  size-unbegun r n e = by-first o e
+    where
+      by-first : (p : Outcome (List ℕ)) → Err r ≡ told p → n ≡ size-after (next-load p q) n
+      by-first (Ok f) e = absurd (err-not-ok e)
+      by-first (Err x) e = refl
+
+  begun-is : (u : Unit {0}) (p : Outcome (List ℕ)) → Ok u ≡ told p → q ≡ next-load p q
+  begun-is u (Ok f) e = refl
+  begun-is u (Err x) e = absurd (err-not-ok (sym e))
+
+  pub area-begun : (u : Unit {0}) (area was : List ℕ) → Ok u ≡ told o → area ≡ area-after q was → area ≡ area-after (next-load o q) was
+  area-begun u area was e a = a ∙ ap (λ p. area-after p was) (begun-is u o e)
+
+  pub size-begun : (u : Unit {0}) (n was : ℕ) → Ok u ≡ told o → n ≡ size-after q was → n ≡ size-after (next-load o q) was
+  size-begun u n was e a = a ∙ ap (λ p. size-after p was) (begun-is u o e)
+
+-- Memory that is cleared twice.
+pub cleared-twice : {X : Type 0} (xs ys zs : List X) (x : X) → ys ≡ replicate (length xs) x → zs ≡ replicate (length ys) x → zs ≡ replicate (length xs) x
+cleared-twice xs ys zs x e f = f ∙ ap (λ n. replicate n x) (ap length e ∙ length-replicate (length xs) x)

@@ -33,3 +33,8 @@ compared o q = do
 abbrev pub Tells : List ℕ → List ℕ → Result Bool Refusal → Type 0
 Tells xs ys (Ok b) = (m n : Message) → Carries xs m → Carries ys n → Decides b (Same m n)
 Tells xs ys (Err e) = Unit {0}
+
+-- What the second load writes, which is not begun where the first is refused.
+abbrev pub next-load : Outcome (List ℕ) → Outcome (List ℕ) → Outcome (List ℕ)
+next-load (Ok f) q = q
+next-load (Err e) q = Err e

@@ -18,7 +18,7 @@ ghost use Rattle.stream.specs.Messages.{read};
 ghost use Rattle.stream.specs.Writing.{written};
 ghost use Rattle.draft.specs.Drafts.{memory, blank, begun, loaded, area-after, size-after, blank-row, Front};
 ghost use Rattle.std.specs.shelf.Text.{sameBytes};
-ghost use Rattle.draft.specs.Promise.{Loads-decide, compared, Tells};
+ghost use Rattle.draft.specs.Promise.{Loads-decide, compared, next-load, Tells};
 use form::restate;
 use index::PropertyKey;
 use index::PropertyRow;
@@ -225,10 +225,18 @@ pub fn same_message<A: Source, B: Source>(
     other: &mut Draft<'_>,
     work: Work<'_>,
 ) -> Result<bool, Refusal>
+    ensures same_first { λ _. ⌜ A·Source .content (now (first .exit)) ≡ A·Source .content (now (first .entry)) ⌝ }
+    ensures same_second { λ _. ⌜ B·Source .content (now (second .exit)) ≡ B·Source .content (now (second .entry)) ⌝ }
     ensures outcome { λ r. ⌜ r ≡ compared
         (loaded (memory (now (work .entry .bytes)) (now (work .entry .rows))) (length (now (now (one .entry) .area))) (meaning (A·Source .content (now (first .entry)))))
         (loaded (memory (now (work .entry .bytes)) (now (work .entry .rows))) (length (now (now (other .entry) .area))) (meaning (B·Source .content (now (second .entry))))) ⌝ }
     ensures decides { λ r. ⌜ Tells (meaning (A·Source .content (now (first .entry)))) (meaning (B·Source .content (now (second .entry)))) r ⌝ }
+    ensures one_area { λ _. ⌜ now (now (one .exit) .area) ≡ area-after (loaded (memory (now (work .entry .bytes)) (now (work .entry .rows))) (length (now (now (one .entry) .area))) (meaning (A·Source .content (now (first .entry))))) (now (now (one .entry) .area)) ⌝ }
+    ensures one_size { λ _. ⌜ now (one .exit) .size ≡ size-after (loaded (memory (now (work .entry .bytes)) (now (work .entry .rows))) (length (now (now (one .entry) .area))) (meaning (A·Source .content (now (first .entry))))) (now (one .entry) .size) ⌝ }
+    ensures other_area { λ _. ⌜ now (now (other .exit) .area) ≡ area-after (next-load (loaded (memory (now (work .entry .bytes)) (now (work .entry .rows))) (length (now (now (one .entry) .area))) (meaning (A·Source .content (now (first .entry))))) (loaded (memory (now (work .entry .bytes)) (now (work .entry .rows))) (length (now (now (other .entry) .area))) (meaning (B·Source .content (now (second .entry)))))) (now (now (other .entry) .area)) ⌝ }
+    ensures other_size { λ _. ⌜ now (other .exit) .size ≡ size-after (next-load (loaded (memory (now (work .entry .bytes)) (now (work .entry .rows))) (length (now (now (one .entry) .area))) (meaning (A·Source .content (now (first .entry))))) (loaded (memory (now (work .entry .bytes)) (now (work .entry .rows))) (length (now (now (other .entry) .area))) (meaning (B·Source .content (now (second .entry)))))) (now (other .entry) .size) ⌝ }
+    ensures bytes { λ _. ⌜ now (work .exit .0) ≡ replicate (length (now (work .entry .bytes))) 0 ⌝ }
+    ensures rows { λ _. ⌜ now (work .exit .1 .0) ≡ replicate (length (now (work .entry .rows))) blank-row ⌝ }
 {
     let _octets = first.len();
     let _octets2 = second.len();
