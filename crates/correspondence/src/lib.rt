@@ -46,9 +46,10 @@ impl Correspondence {
         }
     }
 
-    // How many different forms were added.
+    // How many different forms were added, and so how many different messages.
     pub fn count(&self) -> usize
-        ensures { λ r. ⌜ r ≡ length (forms-in (now (self .entry))) ⌝ }
+        ensures number { λ r. ⌜ r ≡ length (forms-in (now (self .entry))) ⌝ }
+        ensures messages { λ _. ⌜ Groups-decide ⌝ }
     {
         self.forms.len()
     }
@@ -67,11 +68,4 @@ impl Correspondence {
             }
         }
     }
-}
-
-// Two messages have one group exactly where they are the same.
-pub fn groups_decide() -> u8
-    ensures { λ _. ⌜ Groups-decide ⌝ }
-{
-    0
 }
