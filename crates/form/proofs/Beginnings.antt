@@ -1,8 +1,8 @@
 -- How a readable stream begins, and the parts of its entries.
 use Prim.Native.Nat.{ℕ, _+_, _≤_, _<_}
-use mathlib.Core.Path.{_≡_, refl, sym, ap, _∙_}
+use mathlib.Core.Path.{_≡_, refl, ap, _∙_}
 use mathlib.Core.Logic.{inl, inr}
-use mathlib.Core.List.{List, [], _∷_, _++_, map, append-assoc}
+use mathlib.Core.List.{List, [], _∷_, _++_, map}
 use mathlib.Core.Bool.{Bool, true, false, cond}
 use native.Mathlib.Omega.{arith}
 use lib.Dec.{eqb}
@@ -10,7 +10,7 @@ use lib.ListN.{length}
 use Rattle.std.specs.shelf.Lists.{All, joined}
 use Rattle.std.specs.declared.option.Option.{Option}
 use Rattle.std.specs.declared.option.Option.the-variants.{Some, None}
-use Rattle.std.specs.declared.result.Result.the-variants.{Ok, Err}
+use Rattle.std.specs.declared.result.Result.the-variants.{Ok}
 use Rattle.std.proofs.shelf.Tests.{cases-eq, both-ways, eqb-true, eq-eqb, ne-eqb}
 use Rattle.source.proofs.Outcomes.{err-not-ok}
 use Rattle.attribute.specs.Table.{attribute-of, rendering-id, version-id, code-page-id}
@@ -22,12 +22,12 @@ use Rattle.frame.specs.declared.stages.Stage.{Stage}
 use Rattle.frame.specs.declared.stages.Stage.the-variants as stage
 use Rattle.contents.specs.Writing.{known}
 use Rattle.index.specs.declared.attributes.AttributeRow.{AttributeRow}
-use Rattle.stream.specs.Reading.{Meant, version, primary, contents, list, table, Nature, opening, page, Entry}
+use Rattle.stream.specs.Reading.{Meant, version, primary, contents, list, table, opening, page, Entry}
 use Rattle.stream.specs.Messages.{holding-of, message-part, attachment-parts}
 use Rattle.stream.specs.Writing.{write-entry, attachment-entries}
 use Rattle.form.specs.Targets.{remaining, Readable, own-part, later-part, past-part, row-entry, frame-row, Taken}
 use Rattle.form.specs.Holdings.{attachment-bytes}
-use Rattle.form.specs.Wholes.{Rendered, attached, all-attached, Next}
+use Rattle.form.specs.Wholes.{Rendered, attached, all-attached}
 use Rattle.form.proofs.Walks.{Stepped, steps, ends}
 use Rattle.form.proofs.Natures.{nature-in, nature-of, level-of, Apt, row-apt, all-apt, own-levels}
 use Rattle.form.proofs.Holds.{joined-append}

@@ -1,11 +1,9 @@
 -- The parts of what is written of a stream are the written form of the message that it carries.
-use Prim.Native.Nat.{ℕ, _+_, _≤_, _<_}
+use Prim.Native.Nat.{ℕ, _+_}
 use mathlib.Core.Path.{_≡_, refl, sym, ap, _∙_}
 use mathlib.Core.List.{List, [], _∷_, _++_, map, append-assoc}
-use lib.ListN.{length}
 use Rattle.std.specs.shelf.Lists.{All, joined}
 use Rattle.std.specs.declared.option.Option.the-variants.{Some}
-use Rattle.source.specs.Bytes.{le}
 use Rattle.attribute.specs.Table.{attribute-of, message-attributes, message-properties-id, version-id, code-page-id}
 use Rattle.frame.specs.Frames.{signature}
 use Rattle.frame.specs.declared.stages.Stage.{Stage}
@@ -16,7 +14,7 @@ use Rattle.stream.specs.Messages.{or-default, as-primary, first, contents-under
 use Rattle.stream.specs.Writing.{write-entry, attribute-entries, list-entries, table-entries, message-entries, attachment-entries, entries-in, written}
 use Rattle.form.specs.Targets.{remaining, Readable, own-part, past-part, entry-under, Taken}
 use Rattle.form.specs.Holdings.{told-by, told-in, page-bytes, message-bytes}
-use Rattle.form.specs.Wholes.{Rendered, all-attached}
+use Rattle.form.specs.Wholes.{front-bytes, Rendered, all-attached}
 use Rattle.form.proofs.Natures.{level-of, Apt, all-apt, own-levels}
 use Rattle.form.proofs.Holds.{joined-append}
 use Rattle.form.proofs.Tells.{own-all, message-same}
@@ -28,16 +26,8 @@ opener = record { id = version-id; meant = version }
 abbrev pager : ℕ → Entry
 pager n = record { id = code-page-id; meant = primary n }
 
--- The header and the version's frame.
-abbrev front : List ℕ
-front = 0x78 ∷ (0x9F ∷ (0x3E ∷ (0x22 ∷ (1 ∷ (0 ∷ (1 ∷ (6 ∷ (0x90 ∷ (8 ∷ (0 ∷ (4 ∷ (0 ∷ (0 ∷ (0 ∷ (0 ∷ (0 ∷ (1 ∷ (0 ∷ (1 ∷ (0 ∷ []))))))))))))))))))))
-
-front-is : front ≡ (signature ++ 1 ∷ (0 ∷ [])) ++ write-entry opener
-unfolding write-entry attribute-of le
-front-is = refl
-
-assembled : (f s v p q m n a b j : List ℕ) → f ≡ s ++ v → p ≡ q → m ≡ n → a ≡ b → n ++ b ≡ j → f ++ (p ++ (m ++ a)) ≡ s ++ (v ++ (q ++ j))
-assembled f s v p q m n a b j e1 e2 e3 e4 e5 = rw (e1, e2, e3, e4, e5) (append-assoc s v (q ++ j))
+assembled : (s v p q m n a b j : List ℕ) → p ≡ q → m ≡ n → a ≡ b → n ++ b ≡ j → (s ++ v) ++ (p ++ (m ++ a)) ≡ s ++ (v ++ (q ++ j))
+assembled s v p q m n a b j e f g h = rw (e, f, g, h) (append-assoc s v (q ++ j))
 
 -- The message's entries, by its part.
 abbrev own-entries : List Entry → List Entry
@@ -87,13 +77,13 @@ module _ (xs : List ℕ) (rows : List AttributeRow) (q : ℕ) (t : Stage) (good 
   unfolding all-attached
   attached-is = ap (λ l. joined write-entry (joined attachment-entries (map holding-of l))) parts-is
 
-  pub form-is : front ++ (page-bytes xs rows ++ (message-bytes xs rows ++ all-attached (remaining xs q t))) ≡ written (message-of (remaining xs 6 stage.Version))
+  pub form-is : front-bytes ++ (page-bytes xs rows ++ (message-bytes xs rows ++ all-attached (remaining xs q t))) ≡ written (message-of (remaining xs 6 stage.Version))
   unfolding written entries-in
   form-is =
-      assembled front (signature ++ 1 ∷ (0 ∷ [])) (write-entry opener) (page-bytes xs rows) (write-entry (pager (primary-of (remaining xs 6 stage.Version))))
+      assembled (signature ++ 1 ∷ (0 ∷ [])) (write-entry opener) (page-bytes xs rows) (write-entry (pager (primary-of (remaining xs 6 stage.Version))))
       (message-bytes xs rows) (joined write-entry (message-entries (message-of (remaining xs 6 stage.Version))))
       (all-attached (remaining xs q t)) (joined write-entry (joined attachment-entries (map holding-of (attachment-parts (remaining xs 6 stage.Version)))))
-      _ front-is page-is message-is attached-is
+      _ page-is message-is attached-is
       (sym (joined-append write-entry (message-entries (message-of (remaining xs 6 stage.Version))) (joined attachment-entries (map holding-of (attachment-parts (remaining xs 6 stage.Version))))))
 
   pub rest-rendered : Rendered (remaining xs q t)

@@ -1,24 +1,21 @@
 -- The row under an id, and the list or table that its data mean.
-use Prim.Native.Nat.{ℕ, zero, suc, _+_, _≤_, _<_}
+use Prim.Native.Nat.{ℕ, zero, suc, _+_, _≤_}
 use mathlib.Core.Path.{_≡_, refl, sym, ap, _∙_}
 use mathlib.Core.Logic.{inl, inr}
 use mathlib.Core.List.{List, [], _∷_, _++_, map, append-nil}
-use mathlib.Core.Bool.{Bool, true, false, cond}
+use mathlib.Core.Bool.{false}
 use native.Mathlib.Omega.{arith}
 use lib.Dec.{eqb, leb}
 use lib.ListN.{length}
 use Rattle.std.specs.shelf.Lists.{All, joined, folded}
-use Rattle.std.specs.declared.option.Option.{Option}
 use Rattle.std.specs.declared.option.Option.the-variants.{Some, None}
-use Rattle.std.specs.declared.result.Result.the-variants.{Ok, Err}
+use Rattle.std.specs.declared.result.Result.the-variants.{Ok}
 use Rattle.std.proofs.shelf.Tests.{cases-eq, cases-bool, eq-eqb, ne-eqb, leb-true}
 use Rattle.source.specs.Bytes.{part, val}
-use Rattle.source.specs.Outcome.{Outcome, _>>=_, _>>_, need, given, over}
-use Rattle.source.specs.declared.refusals.Reason.the-variants.{FieldEnd, Limit, LeftOver, NotAdmitted}
-use Rattle.source.proofs.Outcomes.{err-not-ok, ok-same, need-got, bind-got, then-got, over-got}
-use Rattle.scan.specs.Scans.{asked}
-use Rattle.scan.proofs.Parts.{asked-within}
-use Rattle.attribute.specs.Table.{attribute-of, recipients-id, code-page-id}
+use Rattle.source.specs.Outcome.{Outcome, _>>=_, _>>_, need}
+use Rattle.source.specs.declared.refusals.Reason.the-variants.{FieldEnd, Limit, LeftOver}
+use Rattle.source.proofs.Outcomes.{ok-same, need-got, bind-got, then-got, over-got}
+use Rattle.attribute.specs.Table.{attribute-of, recipients-id}
 use Rattle.attribute.specs.declared.Attribute.{Attribute}
 use Rattle.attribute.specs.declared.Rule.{Rule}
 use Rattle.index.specs.declared.attributes.AttributeRow.{AttributeRow}
@@ -26,12 +23,12 @@ use Rattle.index.specs.Rows.{has, added}
 use Rattle.property.specs.Fields.{At, field, number-at, repeated, whole}
 use Rattle.property.specs.Lists.{Property, property-at, list-at, table-at, property-list, recipient-table, list-limit, row-limit, same-property, indexed}
 use Rattle.property.specs.Writing.{write-list, write-table}
-use Rattle.stream.specs.Reading.{Meant, primary, list, table, Nature, page, rows, properties, nature, meant-as, Entry}
-use Rattle.stream.specs.Messages.{or-default, as-list, as-table, as-primary}
+use Rattle.stream.specs.Reading.{Meant, list, table, Nature, rows, properties, nature, meant-as}
+use Rattle.stream.specs.Messages.{or-default, as-list, as-table}
 use Rattle.stream.specs.Writing.{level-in, write-entry, list-entries, table-entries}
 use Rattle.form.specs.Framing.{framed}
 use Rattle.form.specs.Targets.{rule-in, row-meant, or-version, row-entry, Standing, row-under, entry-under}
-use Rattle.form.specs.Holdings.{Natured, told-by, told-in, list-bytes, table-bytes, page-bytes}
+use Rattle.form.specs.Holdings.{Natured, told-by, told-in, list-bytes, table-bytes}
 
 module _ (xs : List ℕ) (i : ℕ) where
   pub row-found : (rs : List AttributeRow) (r : AttributeRow) → All (Standing xs) rs → Some r ≡ row-under i rs

@@ -13,7 +13,7 @@ use Rattle.std.specs.declared.option.Option.{Option}
 use Rattle.std.specs.declared.option.Option.the-variants.{Some, None}
 use Rattle.std.proofs.shelf.Lists.{length-append, length-take}
 use Rattle.std.proofs.shelf.Elements.{all-push}
-use Rattle.std.proofs.shelf.Tests.{cases-bool, cases-eq, both-ways, lt-ltb, eqb-true, eq-eqb, ne-eqb, and-parts, or-parts}
+use Rattle.std.proofs.shelf.Tests.{cases-bool, cases-eq, both-ways, lt-ltb, eq-eqb, ne-eqb, or-parts}
 use Rattle.std.proofs.shelf.Ways.{tells}
 use Rattle.attribute.specs.Table.{attributes, find, attribute-of, rendering-id}
 use Rattle.attribute.specs.declared.Attribute.{Attribute}
@@ -26,8 +26,8 @@ use Rattle.index.specs.declared.attributes.AttributeRow.{AttributeRow}
 use Rattle.index.specs.Rows.{has, before, position, added}
 use Rattle.stream.specs.Reading.{Entry}
 use Rattle.stream.specs.Messages.{or-else, message-part}
-use Rattle.form.specs.Targets.{remaining, Readable, own-part, later-part, past-part, row-entry, Standing, frame-row, own-next, entry-under, row-under, same-id, Gathered, Taken}
-use Rattle.form.proofs.Walks.{Stepped, steps, ends}
+use Rattle.form.specs.Targets.{remaining, Readable, own-part, later-part, past-part, row-entry, Standing, frame-row, own-next, entry-under, row-under, same-id, Taken}
+use Rattle.form.proofs.Walks.{steps, ends}
 
 -- What comes first, of three.
 or-assoc : {A : Type 0} (a b c : Option A) → or-else (or-else a b) c ≡ or-else a (or-else b c)

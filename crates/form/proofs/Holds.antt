@@ -2,20 +2,19 @@
 use Prim.Native.Nat.{ℕ, _+_, _≤_, _<_}
 use mathlib.Core.Path.{_≡_, refl, sym, ap, _∙_}
 use mathlib.Core.Logic.{inl, inr}
-use mathlib.Core.List.{List, [], _∷_, _++_, map, append-nil, append-assoc}
-use mathlib.Core.Bool.{Bool, true, false, cond}
+use mathlib.Core.List.{List, [], _∷_, _++_, append-nil, append-assoc}
+use mathlib.Core.Bool.{true}
 use native.Mathlib.Omega.{arith}
-use lib.Dec.{eqb}
 use lib.ListN.{length, drop, getD}
 use Rattle.std.specs.shelf.Lists.{All, joined}
 use Rattle.std.specs.Options.{isSome}
 use Rattle.std.specs.declared.option.Option.{Option}
 use Rattle.std.specs.declared.option.Option.the-variants.{Some, None}
-use Rattle.std.specs.declared.result.Result.the-variants.{Ok, Err}
+use Rattle.std.specs.declared.result.Result.the-variants.{Ok}
 use Rattle.std.proofs.shelf.Lists.{drop-more, drop-all}
 use Rattle.std.proofs.shelf.Tests.{cases-eq, eq-eqb, ne-eqb}
 use Rattle.source.specs.Bytes.{part}
-use Rattle.source.specs.Outcome.{Outcome, given, over}
+use Rattle.source.specs.Outcome.{given, over}
 use Rattle.source.specs.declared.refusals.Reason.the-variants.{NotAdmitted}
 use Rattle.source.proofs.Outcomes.{err-not-ok}
 use Rattle.scan.specs.Scans.{asked}
@@ -25,8 +24,8 @@ use Rattle.attribute.specs.declared.Attribute.{Attribute}
 use Rattle.attribute.specs.declared.Rule.{Rule}
 use Rattle.contents.specs.Contents.{Contents, means, admits, normal, normal-data}
 use Rattle.index.specs.declared.attributes.AttributeRow.{AttributeRow}
-use Rattle.stream.specs.Reading.{Meant, contents, Nature, plain, nature, meant-as, Entry}
-use Rattle.stream.specs.Messages.{or-else, as-contents, first, contents-under}
+use Rattle.stream.specs.Reading.{Meant, contents, Nature, plain, nature, meant-as}
+use Rattle.stream.specs.Messages.{first}
 use Rattle.stream.specs.Writing.{level-in, write-entry, found, attribute-entries}
 use Rattle.form.specs.Framing.{framed}
 use Rattle.form.specs.Targets.{rule-in, row-meant, or-version, row-entry, Standing, row-under}

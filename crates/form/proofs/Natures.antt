@@ -1,22 +1,21 @@
 -- What is known of the entries of a readable stream: their meaning is of the kind that their id has, and those of a
 -- target have one level.
-use Prim.Native.Nat.{ℕ, _+_, _≤_, _<_}
+use Prim.Native.Nat.{ℕ, _+_}
 use mathlib.Core.Path.{_≡_, refl, sym, ap, _∙_}
 use mathlib.Core.Logic.{inl, inr}
 use mathlib.Core.List.{List, [], _∷_, map}
 use mathlib.Core.Bool.{Bool, true, false, cond, _&&_}
 use native.Mathlib.Omega.{arith}
 use lib.Dec.{eqb, ltb}
-use lib.ListN.{length}
 use Rattle.std.specs.shelf.Lists.{All}
 use Rattle.std.specs.declared.option.Option.{Option}
 use Rattle.std.specs.declared.option.Option.the-variants.{Some, None}
-use Rattle.std.specs.declared.result.Result.the-variants.{Ok, Err}
-use Rattle.std.proofs.shelf.Tests.{cases-bool, cases-eq, both-ways, eqb-true, eq-eqb, ne-eqb, and-parts}
-use Rattle.source.specs.Outcome.{Outcome, over, refused}
+use Rattle.std.specs.declared.result.Result.the-variants.{Ok}
+use Rattle.std.proofs.shelf.Tests.{cases-eq, both-ways, eqb-true, eq-eqb, ne-eqb, and-parts}
+use Rattle.source.specs.Outcome.{refused}
 use Rattle.source.specs.declared.refusals.Reason.the-variants.{Limit}
 use Rattle.source.proofs.Outcomes.{err-not-ok, over-got}
-use Rattle.attribute.specs.Table.{attributes, find, attribute-of, rendering-id, version-id, code-page-id, recipients-id, message-properties-id, attachment-properties-id}
+use Rattle.attribute.specs.Table.{attributes, find, attribute-of, rendering-id, version-id, code-page-id}
 use Rattle.attribute.specs.declared.Attribute.{Attribute}
 use Rattle.attribute.specs.declared.Rule.{Rule}
 use Rattle.frame.specs.Stages.{Role, opens, names-page, of-message, begins-attachment, of-attachment, role, next-stage, attachment-limit}

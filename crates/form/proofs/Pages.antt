@@ -9,9 +9,9 @@ use Rattle.std.specs.shelf.Lists.{All}
 use Rattle.std.specs.Options.{isSome}
 use Rattle.std.specs.declared.option.Option.{Option}
 use Rattle.std.specs.declared.option.Option.the-variants.{Some, None}
-use Rattle.std.specs.declared.result.Result.the-variants.{Ok, Err}
+use Rattle.std.specs.declared.result.Result.the-variants.{Ok}
 use Rattle.source.specs.Bytes.{part}
-use Rattle.source.specs.Outcome.{Outcome, given, over}
+use Rattle.source.specs.Outcome.{given, over}
 use Rattle.source.specs.declared.refusals.Reason.the-variants.{NotAdmitted}
 use Rattle.source.proofs.Outcomes.{err-not-ok}
 use Rattle.scan.specs.Scans.{asked}
@@ -21,11 +21,11 @@ use Rattle.attribute.specs.declared.Rule.the-variants as rule
 use Rattle.contents.specs.Contents.{Contents, code-page, means, admits, normal, normal-data, code-page-in, primary-number}
 use Rattle.contents.proofs.Parts.{also-some}
 use Rattle.index.specs.declared.attributes.AttributeRow.{AttributeRow}
-use Rattle.stream.specs.Reading.{Meant, primary, page, nature, meant-as}
+use Rattle.stream.specs.Reading.{Meant, primary, page, meant-as}
 use Rattle.stream.specs.Messages.{or-default, as-primary}
 use Rattle.stream.specs.Writing.{write-entry}
 use Rattle.form.specs.Framing.{framed}
-use Rattle.form.specs.Targets.{row-meant, or-version, row-entry, Standing, row-under, entry-under}
+use Rattle.form.specs.Targets.{row-meant, or-version, row-entry, Standing, row-under}
 use Rattle.form.specs.Holdings.{told-by, told-in, page-bytes}
 use Rattle.form.proofs.Found.{row-found, row-lost, row-means}
 use Rattle.form.proofs.Tells.{page-known}

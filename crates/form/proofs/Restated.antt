@@ -1,19 +1,18 @@
 -- What restating answers, at each of its ends.
-use Prim.Native.Nat.{ℕ, _+_, _-_, _≤_, _<_, min}
-use mathlib.Core.Path.{_≡_, refl, sym, ap, _∙_}
-use mathlib.Core.List.{List, [], _∷_, _++_}
-use mathlib.Core.Bool.{Bool, true, false, cond, _&&_}
+use Prim.Native.Nat.{ℕ, _-_, _≤_, _<_, min}
+use mathlib.Core.Path.{_≡_, refl, sym, ap}
+use mathlib.Core.List.{List}
+use mathlib.Core.Bool.{true, false, _&&_}
 use native.Mathlib.Omega.{arith}
 use lib.Dec.{leb}
 use lib.ListN.{length, take}
-use Rattle.std.specs.declared.option.Option.{Option}
 use Rattle.std.specs.declared.option.Option.the-variants.{Some, None}
 use Rattle.std.specs.declared.result.Result.the-variants.{Ok, Err}
-use Rattle.std.proofs.shelf.Lists.{length-take, take-all}
+use Rattle.std.proofs.shelf.Lists.{length-take}
 use Rattle.std.proofs.shelf.Tests.{le-leb, lt-leb}
 use Rattle.std.proofs.shelf.Ways.{tells}
 use Rattle.source.specs.Content.{source-limit}
-use Rattle.source.specs.Outcome.{Outcome, _>>=_, _>>_, need, over, refused}
+use Rattle.source.specs.Outcome.{Outcome, _>>=_, _>>_, over, refused}
 use Rattle.source.specs.declared.refusals.Reason.the-variants.{ShortWork, FormTooLong}
 use Rattle.source.specs.declared.refusals.Refusal.{Refusal}
 use Rattle.source.proofs.Outcomes.{err-not-ok, over-lost}
@@ -26,7 +25,7 @@ use Rattle.stream.specs.Messages.{Message, message-of, read}
 use Rattle.stream.specs.Writing.{written}
 use Rattle.stream.proofs.Judging.{told}
 use Rattle.form.specs.Targets.{or-none, remaining, Readable}
-use Rattle.form.specs.Restating.{fitted, restated, Restates}
+use Rattle.form.specs.Restating.{fitted, restated}
 
 -- A stream that was judged to its end.
 module _ (xs : List ℕ) where

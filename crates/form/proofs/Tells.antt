@@ -1,12 +1,11 @@
 -- What rows tell of a target is what its entries tell.
-use Prim.Native.Nat.{ℕ, _+_, _≤_, _<_}
+use Prim.Native.Nat.{ℕ, _+_}
 use mathlib.Core.Path.{_≡_, refl, sym, ap, _∙_}
 use mathlib.Core.Logic.{inl, inr}
 use mathlib.Core.List.{List, [], _∷_, _++_, map, append-assoc}
-use mathlib.Core.Bool.{Bool, true, false, cond, _&&_}
+use mathlib.Core.Bool.{Bool, true, false, cond}
 use native.Mathlib.Omega.{arith}
 use lib.Dec.{eqb}
-use lib.ListN.{length}
 use Rattle.std.specs.shelf.Lists.{All, joined}
 use Rattle.std.specs.Options.{isSome}
 use Rattle.std.specs.declared.option.Option.{Option}
@@ -19,14 +18,13 @@ use Rattle.attribute.specs.declared.Rule.the-variants as rule
 use Rattle.frame.proofs.Placing.{find-id}
 use Rattle.contents.specs.Contents.{Contents}
 use Rattle.index.specs.declared.attributes.AttributeRow.{AttributeRow}
-use Rattle.property.specs.Lists.{Property, indexed}
 use Rattle.stream.specs.Reading.{Meant, version, primary, contents, list, table, Nature, plain, opening, page, rows, properties, nature, Entry}
-use Rattle.stream.specs.Messages.{or-else, or-default, as-contents, as-list, as-table, as-primary, first, contents-under, properties-of, rows-of, holding-of, message-part, attachment-parts}
+use Rattle.stream.specs.Messages.{or-else, as-contents, as-list, as-table, first, contents-under, properties-of, rows-of, holding-of, message-part}
 use Rattle.stream.specs.Writing.{level-in, write-entry, found, attribute-entries, list-entries, table-entries, attachment-entries}
-use Rattle.form.specs.Targets.{rule-in, row-entry, Standing, entry-under, own-part, later-part, past-part, Gathered}
+use Rattle.form.specs.Targets.{rule-in, row-entry, entry-under, own-part, Gathered}
 use Rattle.form.specs.Holdings.{Natured, Plain, contents-in, attribute-bytes, told-by, told-in, table-bytes, list-bytes, message-bytes, attachment-bytes}
 use Rattle.form.proofs.Holds.{joined-append}
-use Rattle.form.proofs.Natures.{nature-in, nature-of, level-of, Apt, rows-apt, find-every, every}
+use Rattle.form.proofs.Natures.{nature-in, nature-of, level-of, Apt, rows-apt, find-every}
 
 -- The first entry that tells is the one under an id, where those under it tell and the others do not.
 module _ {A : Type 0} (g : Meant → Option A) (i : ℕ) where

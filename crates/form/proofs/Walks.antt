@@ -1,15 +1,14 @@
 -- A readable stream, frame by frame.
-use Prim.Native.Nat.{ℕ, suc, _+_, _≤_, _<_}
+use Prim.Native.Nat.{ℕ, suc}
 use mathlib.Core.Path.{_≡_, refl, sym, ap, _∙_}
 use mathlib.Core.List.{List, [], _∷_}
 use mathlib.Core.Bool.{Bool, true, false, cond, _&&_}
 use native.Mathlib.Omega.{arith}
-use lib.Dec.{eqb, ltb}
+use lib.Dec.{eqb}
 use lib.ListN.{length}
-use Rattle.std.specs.declared.option.Option.{Option}
 use Rattle.std.specs.declared.option.Option.the-variants.{Some, None}
 use Rattle.std.specs.declared.result.Result.the-variants.{Ok, Err}
-use Rattle.std.proofs.shelf.Tests.{eqb-true, and-parts, cases-bool}
+use Rattle.std.proofs.shelf.Tests.{eqb-true, and-parts}
 use Rattle.source.specs.Outcome.{Outcome, _>>=_, over}
 use Rattle.source.proofs.Outcomes.{err-not-ok}
 use Rattle.frame.specs.Stages.{may-end}
@@ -19,9 +18,9 @@ use Rattle.frame.specs.declared.stages.Stage.{Stage}
 use Rattle.frame.proofs.Placing.{Placed, frame-placed}
 use Rattle.frame.proofs.Standing.{Stands, frame-stands}
 use Rattle.contents.specs.Writing.{known}
-use Rattle.stream.specs.Reading.{Meant, nature, meant-as, meant-at, Entry, entries-from, entries-at}
+use Rattle.stream.specs.Reading.{Meant, meant-at, Entry, entries-from, entries-at}
 use Rattle.stream.proofs.Judging.{told, any-fuel}
-use Rattle.form.specs.Targets.{or-none, remaining, Readable, rule-in, row-meant, or-version, row-entry, Standing, frame-row}
+use Rattle.form.specs.Targets.{or-none, remaining, Readable, row-meant, or-version, row-entry, Standing, frame-row}
 
 module _ (xs : List ℕ) (p : ℕ) (s : Stage) where
   -- A frame that comes next, and the end.

@@ -1,16 +1,21 @@
 -- The whole of what is written, target by target.
 use Prim.Native.Nat.{ℕ, _<_}
 use mathlib.Core.Path.{_≡_}
-use mathlib.Core.List.{List, [], _∷_, map}
+use mathlib.Core.List.{List, [], _∷_, _++_, map}
 use Rattle.std.specs.shelf.Lists.{joined}
 use Rattle.std.specs.declared.option.Option.{Option}
-use Rattle.attribute.specs.Table.{rendering-id}
+use Rattle.attribute.specs.Table.{rendering-id, version-id}
+use Rattle.frame.specs.Frames.{signature}
 use Rattle.frame.specs.declared.stages.Stage.{Stage}
 use Rattle.pen.specs.Pen.{Penned}
-use Rattle.stream.specs.Reading.{Entry}
+use Rattle.stream.specs.Reading.{version, Entry}
 use Rattle.stream.specs.Messages.{holding-of, attachment-parts}
 use Rattle.stream.specs.Writing.{write-entry, attachment-entries}
 use Rattle.form.specs.Targets.{remaining, Readable, own-part, past-part}
+
+-- The header, with the key 01 00, and the version's frame.
+abbrev pub front-bytes : List ℕ
+front-bytes = (signature ++ 1 ∷ (0 ∷ [])) ++ write-entry (record { id = version-id; meant = version })
 
 -- Entries that begin with a rendering, if there are any.
 abbrev pub Rendered : List Entry → Type 0

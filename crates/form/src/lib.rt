@@ -15,9 +15,12 @@ use targets::NO_ROW;
 use targets::ROW_COUNT;
 use wholes::write_form;
 
+mod attachments;
 mod attributes;
 mod framing;
+mod fronts;
 mod lists;
+mod messages;
 mod targets;
 mod wholes;
 

@@ -1,5 +1,5 @@
 use mathlib.Core.Path.{_≡_}
-use lib.ListN.{length, drop}
+use lib.ListN.{drop}
 use Rattle.std.specs.shelf.Lists.{joined}
 use Rattle.source.specs.Content.{meaning}
 use Rattle.stream.specs.Writing.{write-entry, attribute-entries}

@@ -1,4 +1,3 @@
-use mathlib.Core.Path.{sym, _∙_}
 use native.Mathlib.Omega.{arith}
 use Rattle.form.proofs.Framings.{pen-closable, pen-frame}
 use Rattle.form.proofs.attributes.write_row.Needs as need

@@ -1,8 +1,7 @@
-use mathlib.Core.Path.{refl, sym, subst, _∙_}
+use mathlib.Core.Path.{refl, sym, _∙_}
 use native.Mathlib.Omega.{arith}
 use Rattle.std.proofs.shelf.Tests.{eqb-true, eqb-false}
 use Rattle.source.specs.Content.{meaning}
-use Rattle.pen.specs.Pen.{Penned}
 use Rattle.pen.proofs.Pens.{pen-none}
 use Rattle.form.proofs.Framings.{pen-closable, pen-frame}
 use Rattle.form.proofs.Found.{list-held, list-absent, list-short, list-long}

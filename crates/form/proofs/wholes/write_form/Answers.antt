@@ -15,7 +15,7 @@ write-attachments-requires g c κs =
     let m = c .write-message-message .ensures in
     let same = m .same ∙ p .same ∙ t .same in
     record {
-      fits = omega (arith, c .write-message-message .kept .out, c .write-page-page .kept .out, c .pen-front .kept .out, c .pre .fits);
+      fits = omega (arith, c .write-message-message .kept .out, c .write-page-page .kept .out, c .write-front-front .kept .out, c .pre .fits);
       room = omega (arith, c .write-message-message .kept .lent, c .pre .room);
       good = subst (λ l. Readable (meaning l) (c .gather-target .result .place) (c .gather-target .result .stage)) (sym same) (t .value .after);
       rendered = subst (λ l. Rendered (remaining (meaning l) (c .gather-target .result .place) (c .gather-target .result .stage))) (sym same)
@@ -33,5 +33,5 @@ returns g c =
     let (n, k, _) = page-told (meaning (g .S·Source .content (c .args .source .now))) _ _ _ (c .pre .good) (t .value) in
     record {
       same = a .same ∙ m .same ∙ p .same ∙ t .same;
-      value = rw (← e) (c .pen-front .ensures ▷ ((rw (t .same, z) at (p .value)) n k ▷ ((rw (p .same ∙ t .same, z) at (m .value)) ▷ (rw (m .same ∙ p .same ∙ t .same) at (a .value)))));
+      value = rw (← e) (c .write-front-front .ensures ▷ ((rw (t .same, z) at (p .value)) n k ▷ ((rw (p .same ∙ t .same, z) at (m .value)) ▷ (rw (m .same ∙ p .same ∙ t .same) at (a .value)))));
     }

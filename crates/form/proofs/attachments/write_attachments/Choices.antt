@@ -4,7 +4,7 @@ use Rattle.source.specs.Content.{meaning}
 use Rattle.form.specs.Framing.{Leads}
 use Rattle.form.specs.Targets.{remaining, Readable}
 use Rattle.form.specs.Wholes.{Rendered, all-attached}
-use Rattle.form.proofs.wholes.write_attachments.Given as given
+use Rattle.form.proofs.attachments.write_attachments.Given as given
 
 abbrev pub Inv-loop-place : given.InvT-loop-place
 Inv-loop-place g l =

@@ -2,7 +2,7 @@ use mathlib.Core.Path.{_∙_}
 use native.Mathlib.Omega.{arith}
 use Rattle.form.proofs.Framings.{leads-on, leads-end}
 use Rattle.form.proofs.Beginnings.{past-rendered, attached-more, none-left}
-use Rattle.form.proofs.wholes.write_attachments.Needs as need
+use Rattle.form.proofs.attachments.write_attachments.Needs as need
 
 pub loop-place-again : need.loop-place-again
 loop-place-again g c =

@@ -1,6 +1,6 @@
 use mathlib.Core.Path.{refl}
 use Rattle.form.proofs.Pages.{page-admitted, page-framed, page-absent}
-use Rattle.form.proofs.wholes.write_page.Needs as need
+use Rattle.form.proofs.fronts.write_page.Needs as need
 
 pub write-row-requires : need.write-row-requires
 write-row-requires g c κs = record { fits = c .pre .fits; good = page-admitted _ (c .args .rows .now) (c .pre .sound) _ (c .in-Some .ensures tt) }

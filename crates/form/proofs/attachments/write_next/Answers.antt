@@ -2,7 +2,7 @@ use mathlib.Core.Path.{_≡_, _∙_}
 use Prim.Native.Nat.{_-_}
 use native.Mathlib.Omega.{arith}
 use Rattle.form.proofs.Beginnings.{next-attached}
-use Rattle.form.proofs.wholes.write_next.Needs as need
+use Rattle.form.proofs.attachments.write_next.Needs as need
 
 pub returns : need.returns
 returns g c =

@@ -6,7 +6,7 @@ use Rattle.pen.proofs.Pens.{_▷_}
 use Rattle.form.specs.Targets.{Standing}
 use Rattle.form.specs.Holdings.{Plain, attachment-bytes}
 use Rattle.form.proofs.Tells.{rendering-plain, attachment-plain, attachment-listed}
-use Rattle.form.proofs.wholes.write_attachment.Needs as need
+use Rattle.form.proofs.attachments.write_attachment.Needs as need
 
 pub write-attribute-rendering-requires : need.write-attribute-rendering-requires
 write-attribute-rendering-requires g c κs = record { fits = c .pre .fits; sound = c .pre .sound; simple = rendering-plain }

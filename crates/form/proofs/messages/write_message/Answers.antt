@@ -6,7 +6,7 @@ use Rattle.pen.proofs.Pens.{_▷_}
 use Rattle.form.specs.Targets.{Standing}
 use Rattle.form.specs.Holdings.{Plain, message-bytes}
 use Rattle.form.proofs.Tells.{message-plain, message-listed}
-use Rattle.form.proofs.wholes.write_message.Needs as need
+use Rattle.form.proofs.messages.write_message.Needs as need
 
 pub write-attributes-attributes-requires : need.write-attributes-attributes-requires
 write-attributes-attributes-requires g c κs =
