@@ -11,7 +11,7 @@ returns-then-n-a g c = record { same = search rules; value = fetched_first _ _ _
 
 pub returns : goal.returns
 returns g c =
-    let f = c.in-ok-fetch.ensures.value.1 in
+    let f = c.in_ok-fetch.ensures.value.1 in
     let k : c.len-a.result - c.args.place ≤ length c.args.buffer.now = omega arith in
     let l : length c.fetch-2.new.buffer ≡ c.len-a.result - c.args.place = search (rules, places) in
     let s = second_part _ _ c.fetch-2.new.buffer k l in
