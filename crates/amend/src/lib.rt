@@ -1,4 +1,6 @@
 // Writing the form of a message anew with one part of it changed.
+#![tactic(auto)]
+
 mod attachings;
 mod attachments;
 mod attributes;

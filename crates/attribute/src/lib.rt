@@ -1,4 +1,6 @@
 // The attributes that a stream can have: their ids, levels and rules.
+#![tactic(auto)]
+
 ghost use Rattle.std.specs.Prelude.{◌≡◌};
 ghost use Rattle.attribute.specs.Table.{attributes, find, attribute_of, Sound};
 

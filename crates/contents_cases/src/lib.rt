@@ -1,4 +1,6 @@
 // Data at the edges of each rule: which are admitted, and what normal data they have.
+#![tactic(auto)]
+
 #[cfg(test)]
 mod tests {
     use attribute::Rule;

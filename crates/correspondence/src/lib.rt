@@ -1,4 +1,6 @@
 // The different letters of a correspondence, by their written forms.
+#![tactic(auto)]
+
 ghost use Rattle.std.specs.Prelude.{◌≡◌, false, length, is_ok, IfOk, if◌then◌else◌};
 ghost use Rattle.std.specs.Str.{bytes_eq};
 ghost use Rattle.index.specs.Rows.{added, before};

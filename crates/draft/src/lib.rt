@@ -1,4 +1,6 @@
 // Drafts: a message's written form in a lent area.
+#![tactic(auto)]
+
 ghost use Rattle.std.specs.Prelude.{◌≡◌, ℕ, ◌-◌, ◌≤◌, ◌&&◌, ◌++◌, length, take, replicate, IfOk, Some, Ok};
 ghost use Rattle.source.specs.Bytes.{le};
 ghost use Rattle.scan.specs.Scans.{checksum};

@@ -1,4 +1,6 @@
 // Drafts that are begun and loaded, and what is left of area and work memory.
+#![tactic(auto)]
+
 #[cfg(test)]
 mod tests {
     use draft::{BLANK_ROW, Draft, Work};

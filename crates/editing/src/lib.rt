@@ -1,4 +1,6 @@
 // What edits, asks and counts mean on messages.
+#![tactic(auto)]
+
 ghost use Rattle.editing.specs.Edits.{change};
 ghost use Rattle.editing.specs.Asks.{attribute_asked};
 ghost use Rattle.editing.specs.Amendments.{amended};

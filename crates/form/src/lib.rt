@@ -1,4 +1,6 @@
 // The written form of what a stream carries.
+#![tactic(auto)]
+
 ghost use Rattle.std.specs.Prelude.{◌≡◌, length};
 ghost use Rattle.source.specs.Content.{meaning};
 ghost use Rattle.form.specs.Restating.{restated, Restates};

@@ -1,4 +1,6 @@
 // The frames of a stream: the header, the order of frames, and the checks of one frame up to its checksum.
+#![tactic(auto)]
+
 ghost use Rattle.std.specs.Prelude.{◌≡◌, ◌+◌, ◌≤◌, IfSome, IfOk, OnOk};
 ghost use Rattle.source.specs.Content.{meaning, source_limit};
 ghost use Rattle.frame.specs.Frames.{header, head_at, head_judged, sum_judged, frame_at, next_frame, Onward};

@@ -1,4 +1,6 @@
 // Damaged streams with the refusal of each, and streams that are good, through every kind of source.
+#![tactic(auto)]
+
 #[cfg(test)]
 mod tests {
     use frame::{Stage, header, next_frame};

@@ -1,4 +1,6 @@
 // Lists the frames of the stream on standard input, with what their data mean.
+#![tactic(auto)]
+
 mod lists;
 mod meanings;
 mod shown;

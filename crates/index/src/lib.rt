@@ -1,4 +1,6 @@
 // Rows in a lent slice, found by equality of their keys and kept as their keys first come.
+#![tactic(auto)]
+
 ghost use Rattle.std.specs.Prelude.{◌≡◌, Bool, true};
 ghost use Rattle.index.specs.Laws.{Lawful};
 ghost use Rattle.index.specs.Rows.{position, Added};

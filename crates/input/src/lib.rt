@@ -1,4 +1,6 @@
 // Reading all that a reader gives, up to a limit.
+#![tactic(auto)]
+
 ghost use Rattle.std.specs.Prelude.{◌+◌, ◌≤◌, IfOk, vec_len};
 
 use std::alloc::Global;

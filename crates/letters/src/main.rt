@@ -1,4 +1,6 @@
 // Which of the named files carry the same message, and how many different messages they carry.
+#![tactic(auto)]
+
 use correspondence::Correspondence;
 use draft::BLANK_ROW;
 use form::restate;

@@ -1,4 +1,6 @@
 // Writes property lists and tables in their normal form.
+#![tactic(auto)]
+
 mod fields;
 mod keys;
 mod lists;

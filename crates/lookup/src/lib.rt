@@ -1,4 +1,6 @@
 // Finding things in a stream that is known to be readable.
+#![tactic(auto)]
+
 mod attributes;
 mod counts;
 mod lists;

@@ -1,4 +1,6 @@
 // Messages, their written forms, what forms decide, and the grammar of streams.
+#![tactic(auto)]
+
 ghost use Rattle.message.specs.Promise.{FormsDecide, FormsRead};
 ghost use Rattle.message.specs.Grammar.{ByGrammar};
 ghost use Rattle.message.specs.Examples.{Examples};

@@ -1,4 +1,6 @@
 // Writing bytes into a lent slice, one part after another.
+#![tactic(auto)]
+
 ghost use Rattle.std.specs.Prelude.{◌≡◌, ◌+◌, ◌≤◌, length, replicate};
 ghost use Rattle.source.specs.Bytes.{part, le};
 ghost use Rattle.source.specs.Content.{meaning};

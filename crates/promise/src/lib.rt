@@ -1,4 +1,6 @@
 // What drafts promise as a whole.
+#![tactic(auto)]
+
 ghost use Rattle.promise.specs.Canonical.{Canonical};
 ghost use Rattle.promise.specs.Examples.{WorkedRuns};
 

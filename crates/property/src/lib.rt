@@ -1,4 +1,6 @@
 // Judges lists of properties over any source, field by field, and indexes them.
+#![tactic(auto)]
+
 mod fields;
 mod indexing;
 mod kinds;

@@ -1,4 +1,6 @@
 // Lists and tables of properties, judged: which are read, and which are refused, why and where.
+#![tactic(auto)]
+
 use property::{property_list, recipient_table};
 use source::{Held, Refusal, Source};
 

@@ -1,4 +1,6 @@
 // Restates the stream on standard input.
+#![tactic(auto)]
+
 use draft::{BLANK_ROW, Draft, Work};
 use input::read_past;
 use property::LIST_LIMIT;

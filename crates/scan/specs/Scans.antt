@@ -1,4 +1,4 @@
-use Rattle.std.specs.Prelude.{ℕ, ◌+◌, ◌%◌, cond, List, length, Ok, Err, sum, nat_le}
+use Rattle.std.specs.Prelude.{ℕ, ◌+◌, ◌%◌, cond, List, length, Ok, sum, nat_le}
 use Rattle.source.specs.Bytes.{part}
 use Rattle.source.specs.Outcome.{Outcome, refused}
 use Rattle.source.specs.declared.refusals.Reason.TheVariants.{SourceEnd}

@@ -1,5 +1,5 @@
 -- Text: one zero, its last.
-use Rattle.std.specs.Prelude.{ℕ, Bool, true, false, cond, not, ◌&&◌, List, [], ◌∷◌, is_some, Some, None, Option, ◌==◌}
+use Rattle.std.specs.Prelude.{ℕ, Bool, false, cond, not, ◌&&◌, List, [], ◌∷◌, is_some, Some, None, Option, ◌==◌}
 
 abbrev pub also : {A B : Type 0} → Option A → (A → B) → Option B
 also (Some a) f = Some (f a)

@@ -1,4 +1,6 @@
 // Reading a part of a source in chunks, byte by byte: sums, texts, numbers.
+#![tactic(auto)]
+
 ghost use Rattle.std.specs.Prelude.{◌≡◌, ℕ, fold};
 ghost use Rattle.source.specs.Bytes.{val};
 ghost use Rattle.source.specs.Content.{meaning};

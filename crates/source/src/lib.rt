@@ -1,4 +1,6 @@
 // What bytes are read from: a source means a list of at most SOURCE_LIMIT bytes.
+#![tactic(auto)]
+
 ghost use Rattle.std.specs.Prelude.{◌≡◌, ℕ, ◌≤◌, List, length};
 ghost use Rattle.source.specs.Bytes.{Octets};
 ghost use Rattle.source.specs.Content.{Content, meaning, source_limit};

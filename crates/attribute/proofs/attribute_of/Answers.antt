@@ -3,4 +3,4 @@ use Rattle.attribute.proofs.attribute_of.Goals as goal
 
 pub returns : goal.returns
 unfolding attribute_of
-returns c = c.find-in.ensures
+returns c = c.find_in.ensures

@@ -1,21 +1,21 @@
 use Rattle.std.proofs.Common.{Ok, Err, sym, ap, ◌∙◌}
 use Rattle.std.proofs.lemmas.Result.{err_from_is_err_and}
-use Rattle.source.specs.Bytes.{part, val}
+use Rattle.source.specs.Bytes.{part}
 use Rattle.source.specs.Content.{meaning}
 use Rattle.scan.proofs.Numbers.{length_part, val_four}
 use Rattle.scan.proofs.Parts.{asked_within, asked_past}
 use Rattle.scan.proofs.u32_at.Goals as goal
 
-pub returns-in-err-fetch : goal.returns-in-err-fetch
-returns-in-err-fetch g c =
-    let p = err_from_is_err_and c.from-residual.result c.from-residual.ensures.1 in
-    let h = c.in-err-fetch.ensures in
+pub returns-in_err-fetch : goal.returns-in_err-fetch
+returns-in_err-fetch g c =
+    let p = err_from_is_err_and c.from_residual.result c.from_residual.ensures.1 in
+    let h = c.in_err-fetch.ensures in
     rw (p.1, p.2) (record { same = h.same; value = ap Err h.value.2 ∙ sym (asked_past _ _ _ _ h.value.0) })
 
 pub returns : goal.returns
 unfolding part
 returns g c =
-    let h = c.in-ok-fetch.ensures in
+    let h = c.in_ok-fetch.ensures in
     let xs = meaning (g.S.Source.content c.args.source.now) in
     let v = val_four (part xs c.args.place 4) (length_part xs c.args.place 4 h.value.0) in
-    record { same = h.same; value = ap Ok ((rw h.value.1 at c.from-le-bytes.ensures) ∙ sym v) ∙ sym (asked_within _ _ _ _ h.value.0) }
+    record { same = h.same; value = ap Ok ((rw h.value.1 at c.from_le_bytes.ensures) ∙ sym v) ∙ sym (asked_within _ _ _ _ h.value.0) }

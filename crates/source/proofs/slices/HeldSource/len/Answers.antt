@@ -1,5 +1,4 @@
 use Rattle.std.proofs.Common.{rules}
-use Rattle.std.proofs.ByRecursion.{All-take}
 use Rattle.source.proofs.Spans.{length_clamped, octets_clamped}
 use Rattle.source.proofs.slices.HeldSource.len.Goals as goal
 
