@@ -1,20 +1,19 @@
 -- What the checks of a header and of a frame give, at each of their ends.
-use Rattle.std.proofs.Common.{◌≡◌, ℕ, ◌+◌, ◌*◌, ◌<◌, ◌≤◌, Bool, true, false, cond, ◌&&◌, eqb, List, [], ◌∷◌, length, get_or, take, drop, Some, None, Ok, Err, sym, refl, ap, ◌∙◌, arith}
+use Rattle.std.proofs.Common.{◌≡◌, ℕ, ◌+◌, ◌*◌, ◌<◌, ◌≤◌, Bool, true, false, ◌&&◌, eqb, List, [], ◌∷◌, length, get_or, take, drop, Some, None, Ok, Err, sym, refl, ap, ◌∙◌, arith}
 use Rattle.std.proofs.lemmas.List.{get_or-take, get_or-drop}
 use Rattle.std.proofs.lemmas.Bool.{le-leb, lt-leb, lt-ltb, le-ltb, eq-eqb, ne_eqb, eqb-true}
 use Rattle.std.proofs.lemmas.Bool.Decides.{nat_tests}
 use Rattle.source.specs.Bytes.{part, val, same_bytes}
-use Rattle.source.specs.Outcome.{Outcome, refused, over}
+use Rattle.source.specs.Outcome.{refused, over}
 use Rattle.source.specs.declared.refusals.Reason.TheVariants.{StreamEnd, Signature, Level, UnknownId, LengthSign, Checksum}
 use Rattle.source.specs.declared.refusals.Refusal.{Refusal}
 use Rattle.scan.specs.Scans.{checksum}
-use Rattle.scan.proofs.Numbers.{length_part, val_two, val_four}
+use Rattle.scan.proofs.Numbers.{length_part, val_four}
 use Rattle.attribute.specs.Table.{attribute_of}
 use Rattle.attribute.specs.declared.Attribute.{Attribute}
 use Rattle.attribute.specs.declared.Rule.{Rule}
 use Rattle.attribute.specs.declared.Rule.TheVariants as rule
 use Rattle.frame.specs.declared.stages.Stage.{Stage}
-use Rattle.frame.specs.declared.Frame.{Frame}
 use Rattle.frame.specs.declared.Head.{Head}
 use Rattle.frame.specs.declared.Judged.{Judged}
 use Rattle.frame.specs.Stages.{role, next_stage, may_end}

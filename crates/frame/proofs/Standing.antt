@@ -1,10 +1,9 @@
 -- What is known of a frame that was read.
-use Rattle.std.proofs.Common.{◌≡◌, ℕ, ◌+◌, ◌≤◌, Bool, true, false, cond, ◌&&◌, ◌||◌, eqb, leb, List, length, Some, None, Ok, Err, Option, sym, refl, ap, ◌∙◌, arith}
+use Rattle.std.proofs.Common.{◌≡◌, ℕ, ◌+◌, ◌≤◌, Bool, true, false, cond, ◌&&◌, ◌||◌, eqb, leb, List, length, Some, None, Ok, Err, sym, refl, arith}
 use Rattle.std.proofs.lemmas.Bool.{leb-true}
 use Rattle.source.specs.Bytes.{part, val}
 use Rattle.source.specs.Outcome.{Outcome, ◌>>=◌, ◌>>◌, need, over}
 use Rattle.source.specs.declared.refusals.Reason.TheVariants.{StreamEnd, Checksum}
-use Rattle.source.specs.declared.refusals.Refusal.{Refusal}
 use Rattle.source.proofs.Outcomes.{err_not_ok, ok_same, need_got, bind_got, then_got}
 use Rattle.scan.specs.Scans.{checksum}
 use Rattle.attribute.specs.declared.Rule.{Rule}

@@ -1,5 +1,5 @@
 -- The header, and one frame up to its checksum, in the order of the checks.
-use Rattle.std.specs.Prelude.{ℕ, ◌+◌, ◌<◌, ◌≤◌, Bool, true, false, cond, ◌&&◌, ◌||◌, List, [], ◌∷◌, length, take, Some, None, Ok, Err, Option, ◌==◌, nat_le, nat_lt, slice_index}
+use Rattle.std.specs.Prelude.{ℕ, ◌+◌, ◌<◌, ◌≤◌, Bool, true, false, cond, ◌&&◌, ◌||◌, List, [], ◌∷◌, length, take, Some, None, Ok, Option, ◌==◌, nat_le, nat_lt, slice_index}
 use Rattle.source.specs.Bytes.{part, val, same_bytes}
 use Rattle.source.specs.Content.{source_limit}
 use Rattle.source.specs.Outcome.{Outcome, ◌>>=◌, ◌>>◌, need, given, over}

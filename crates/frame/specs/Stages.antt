@@ -1,5 +1,5 @@
 -- The order of frames.
-use Rattle.std.specs.Prelude.{ℕ, ◌+◌, Bool, true, false, cond, Ok, Err, ◌==◌, nat_lt}
+use Rattle.std.specs.Prelude.{ℕ, ◌+◌, Bool, true, false, cond, Ok, ◌==◌, nat_lt}
 use Rattle.source.specs.Outcome.{Outcome, refused}
 use Rattle.source.specs.declared.refusals.Reason.TheVariants.{Misplaced, Limit}
 use Rattle.attribute.specs.Table.{version_id, code_page_id, rendering_id}

@@ -1,5 +1,5 @@
 -- What the code's rows and keys say of what was read.
-use Rattle.std.specs.Prelude.{◌≡◌, ℕ, ◌+◌, List, [], Ok, Err, Result}
+use Rattle.std.specs.Prelude.{◌≡◌, ℕ, ◌+◌, List, Ok, Err, Result}
 use Rattle.source.specs.Bytes.{part}
 use Rattle.source.specs.Outcome.{Outcome}
 use Rattle.source.specs.declared.refusals.Refusal.{Refusal}

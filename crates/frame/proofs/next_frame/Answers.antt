@@ -12,15 +12,15 @@ more {b} e f (inr h) q k = both_ways b h (e ∙ k)
 
 pub returns-then-place-total : goal.returns-then-place-total
 returns-then-place-total g c =
-    record { same = refl; reads = frames_end _ _ _ (c.if-place-total.true ∙ c.len-total.ensures.value) (sym c.may-end-complete.ensures ∙ c.if-complete.true); within = tt }
+    record { same = refl; reads = frames_end _ _ _ (c.if-place-total.true ∙ c.len-total.ensures.value) (sym c.may_end-complete.ensures ∙ c.if-complete.true); within = tt }
 
-pub returns-in-err-frame : goal.returns-in-err-frame
-returns-in-err-frame g c =
-    let p = err_from_is_err_and c.from-residual.result c.from-residual.ensures.1 in
-    let h = c.in-err-frame.ensures in
-    rw (p.1, p.2) (record { same = h.same; reads = ap (over Some) h.reads ∙ frames_go_on _ _ _ (more c.may-end-complete.ensures c.len-total.ensures.value c.else-complete.either); within = tt })
+pub returns-in_err-frame : goal.returns-in_err-frame
+returns-in_err-frame g c =
+    let p = err_from_is_err_and c.from_residual.result c.from_residual.ensures.1 in
+    let h = c.in_err-frame.ensures in
+    rw (p.1, p.2) (record { same = h.same; reads = ap (over Some) h.reads ∙ frames_go_on _ _ _ (more c.may_end-complete.ensures c.len-total.ensures.value c.else-complete.either); within = tt })
 
 pub returns : goal.returns
 returns g c =
-    let h = c.in-ok-frame.ensures in
-    record { same = h.same; reads = ap (over Some) h.reads ∙ frames_go_on _ _ _ (more c.may-end-complete.ensures c.len-total.ensures.value c.else-complete.either); within = h.within }
+    let h = c.in_ok-frame.ensures in
+    record { same = h.same; reads = ap (over Some) h.reads ∙ frames_go_on _ _ _ (more c.may_end-complete.ensures c.len-total.ensures.value c.else-complete.either); within = h.within }

@@ -3,4 +3,4 @@ use Rattle.contents.proofs.classes.class_of.Goals as goal
 
 pub returns : goal.returns
 unfolding pair_number
-returns c = c.number-in.ensures
+returns c = c.number_in.ensures

@@ -13,7 +13,7 @@ loop-m-preserved c =
     let i = c.loop-m.invariant in
     let small = month_small c.args.year c.loop-m.m in
     let e = days_more c.args.year c.loop-m.m (omega arith) in
-    (omega (arith, e, i.0, c.length-of.ensures), omega (arith, c.length-of.ensures), omega arith)
+    (omega (arith, e, i.0, c.length_of.ensures), omega (arith, c.length_of.ensures), omega arith)
 
 pub returns : goal.returns
 returns c =

@@ -5,13 +5,13 @@ use Rattle.scan.proofs.Parts.{asked_as, asked_too_far}
 use Rattle.contents.specs.Status.{status_of}
 use Rattle.contents.proofs.statuses.status_at.Goals as goal
 
-pub returns-in-err-bits : goal.returns-in-err-bits
-returns-in-err-bits g c =
-    let p = err_from_is_err_and c.from-residual.result c.from-residual.ensures.1 in
-    let h = c.in-err-bits.ensures in
+pub returns-in_err-bits : goal.returns-in_err-bits
+returns-in_err-bits g c =
+    let p = err_from_is_err_and c.from_residual.result c.from_residual.ensures.1 in
+    let h = c.in_err-bits.ensures in
     rw (p.1, p.2) (record { same = h.same; value = asked_too_far _ _ _ _ _ _ h.value })
 
 pub returns : goal.returns
 returns g c =
-    let h = c.in-ok-bits.ensures in
+    let h = c.in_ok-bits.ensures in
     record { same = h.same; value = ap Ok c.status_in.ensures ∙ asked_as _ _ _ _ _ (λ o. also o status_of) _ h.value (λ ys. refl) }

@@ -4,4 +4,4 @@ use Rattle.contents.proofs.writing.pen_truth.Goals as goal
 
 pub returns : goal.returns
 unfolding normal
-returns c = rw (c.from.ensures ∙ c.flag-if.ensures) at c.pen-le16.ensures
+returns c = rw (c.from.ensures ∙ c.flag_if.ensures) at c.pen_le16.ensures

@@ -5,13 +5,13 @@ use Rattle.contents.proofs.writing.write_class.Goals as goal
 
 pub returns-in-Some : goal.returns-in-Some
 returns-in-Some g c =
-    let h = c.class-at.ensures in
+    let h = c.class_at.ensures in
     let k = c.in-Some.ensures ∙ ap known h.value in
-    record { same = h.same; value = class_some _ _ _ _ k c.pen-class.ensures }
+    record { same = h.same; value = class_some _ _ _ _ k c.pen_class.ensures }
 
 pub returns-in-None : goal.returns-in-None
 returns-in-None g c =
-    let h = c.class-at.ensures in
+    let h = c.class_at.ensures in
     let k = c.in-None.ensures ∙ ap known h.value in
-    let p = c.pen-from.ensures in
+    let p = c.pen_from.ensures in
     record { same = p.same ∙ h.same; value = class_none _ _ _ k (rw h.same at p.value) }

@@ -8,13 +8,13 @@ use Rattle.contents.proofs.writing.write_code_page.Goals as goal
 pub returns-in-Some : goal.returns-in-Some
 unfolding means
 returns-in-Some g c =
-    let h = c.code-page-at.ensures in
+    let h = c.code_page_at.ensures in
     let k = c.in-Some.ensures ∙ ap known h.value in
-    record { same = h.same; value = written_some rules.CodePage code_page_in code_page _ _ _ (λ ys. refl) _ k c.pen-code-page.ensures }
+    record { same = h.same; value = written_some rules.CodePage code_page_in code_page _ _ _ (λ ys. refl) _ k c.pen_code_page.ensures }
 
 pub returns-in-None : goal.returns-in-None
 unfolding means
 returns-in-None g c =
-    let h = c.code-page-at.ensures in
+    let h = c.code_page_at.ensures in
     let k = c.in-None.ensures ∙ ap known h.value in
     record { same = h.same; value = written_none rules.CodePage code_page_in code_page _ _ _ (λ ys. refl) k }

@@ -11,7 +11,7 @@ unfolding means
 returns-in-Some g c =
     let h = c.date_at.ensures in
     let k = c.in-Some.ensures ∙ ap known h.value in
-    record { same = h.same; value = written_some rules.Date date_of date _ _ _ (λ ys. refl) _ k c.pen-date.ensures }
+    record { same = h.same; value = written_some rules.Date date_of date _ _ _ (λ ys. refl) _ k c.pen_date.ensures }
 
 pub returns-in-None : goal.returns-in-None
 unfolding means

@@ -4,12 +4,12 @@ use Rattle.contents.proofs.writing.write_normal.Goals as goal
 
 pub returns-in-Text : goal.returns-in-Text
 returns-in-Text g c =
-    let h = c.write-same.ensures in
+    let h = c.write_same.ensures in
     record { same = h.same; value = written_own _ _ _ _ c.in-Text.is h.octets h.value }
 
 pub returns-in-Digits : goal.returns-in-Digits
 returns-in-Digits g c =
-    let h = c.pen-capitals.ensures in
+    let h = c.pen_capitals.ensures in
     record { same = h.same; value = written_digits _ _ _ _ c.in-Digits.is h.value }
 
 pub returns-in-Recipients : goal.returns-in-Recipients

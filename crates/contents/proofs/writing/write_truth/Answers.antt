@@ -8,13 +8,13 @@ use Rattle.contents.proofs.writing.write_truth.Goals as goal
 pub returns-in-Some : goal.returns-in-Some
 unfolding means
 returns-in-Some g c =
-    let h = c.truth-at.ensures in
+    let h = c.truth_at.ensures in
     let k = c.in-Some.ensures ∙ ap known h.value in
-    record { same = h.same; value = written_some rules.YesNo truth_in truth _ _ _ (λ ys. refl) _ k c.pen-truth.ensures }
+    record { same = h.same; value = written_some rules.YesNo truth_in truth _ _ _ (λ ys. refl) _ k c.pen_truth.ensures }
 
 pub returns-in-None : goal.returns-in-None
 unfolding means
 returns-in-None g c =
-    let h = c.truth-at.ensures in
+    let h = c.truth_at.ensures in
     let k = c.in-None.ensures ∙ ap known h.value in
     record { same = h.same; value = written_none rules.YesNo truth_in truth _ _ _ (λ ys. refl) k }

@@ -9,6 +9,6 @@ use Rattle.listform.proofs.fields.pen_part.Goals as goal
 pub returns : goal.returns
 unfolding filled
 returns g c =
-    let h = c.pen-from-a.ensures in
+    let h = c.pen_from-a.ensures in
     let n : length (part (meaning (g.S.Source.content c.args.source.now)) c.args.place c.args.size) ≡ c.args.size = length_part _ _ _ c.requires in
-    record { same = h.same; value = rw n (h.value c.requires ▷ (rw c.gap-pad.ensures at c.pen-zeros.ensures)) }
+    record { same = h.same; value = rw n (h.value c.requires ▷ (rw c.gap-pad.ensures at c.pen_zeros.ensures)) }

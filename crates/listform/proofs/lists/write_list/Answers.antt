@@ -5,5 +5,5 @@ use Rattle.listform.proofs.lists.write_list.Goals as goal
 
 pub returns : goal.returns
 returns g c =
-    let h = c.write-list-at-passed.ensures in
+    let h = c.write_list_at-passed.ensures in
     record { same = h.same; value = λ ps e l m. (h.value (at ps c.args.end) (list_in (meaning (g.S.Source.content c.args.source.now)) c.args.end c.args.base ps e)).1 }

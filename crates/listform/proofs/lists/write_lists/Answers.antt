@@ -10,10 +10,10 @@ loop-i-init g c = (refl, λ a f. (a, rw sub-zero f, λ after r p. p))
 pub loop-i-preserved : goal.loop-i-preserved
 loop-i-preserved g c =
     let i = c.loop-i.invariant in
-    let q = c.write-list-at-passed.ensures in (
+    let q = c.write_list_at-passed.ensures in (
       q.same ∙ i.0,
       left_more (meaning (g.S.Source.content c.args.source.now)) c.args.end c.args.count c.args.place c.args.out.now c.args.start
-          (c.args.count - c.loop-i.i) (c.args.count - (c.loop-i.i + 1)) c.loop-i.read c.loop-i.out c.write-list-at-passed.new.out c.loop-i.here c.write-list-at-passed.result
+          (c.args.count - c.loop-i.i) (c.args.count - (c.loop-i.i + 1)) c.loop-i.read c.loop-i.out c.write_list_at-passed.new.out c.loop-i.here c.write_list_at-passed.result
           (omega arith) i.1 (rw i.0 at q.value),
     )
 

@@ -12,12 +12,12 @@ returns-then-end-lt4 g c =
 
 pub returns : goal.returns
 returns g c =
-    let h = c.number-at-count.ensures in
-    let q = c.write-lists.ensures in
+    let h = c.number_at-count.ensures in
+    let q = c.write_lists.ensures in
     let all = rw (h.same, h.value) at q.value in
     record {
       same = q.same ∙ h.same;
       value = λ rs e l m.
           let (fits, n, r) = table_in (meaning (g.S.Source.content c.args.source.now)) c.args.end c.args.base rs e in
-          rw (← table_form rs, ← n, ← h.value) (c.pen-le32-a.ensures ▷ all (at rs c.args.end) r);
+          rw (← table_form rs, ← n, ← h.value) (c.pen_le32-a.ensures ▷ all (at rs c.args.end) r);
     }

@@ -6,4 +6,4 @@ pub returns : goal.returns
 unfolding row_form
 returns g c =
     let h = c.write_values.ensures in
-    record { same = h.same; value = rw (← c.in-Some.ensures) (c.pen-le16-a.ensures ▷ (c.pen-key-b.ensures ▷ h.value)) }
+    record { same = h.same; value = rw (← c.in-Some.ensures) (c.pen_le16-a.ensures ▷ (c.pen_key-b.ensures ▷ h.value)) }

@@ -7,14 +7,14 @@ use Rattle.listform.proofs.ValueForms.{fixed_filled}
 use Rattle.listform.proofs.WalkSteps.{within_now, within_more, walked_more, walked_none}
 use Rattle.listform.proofs.values.fixed_run.Goals as goal
 
-pub write-fixed-a-requires : goal.write-fixed-a-requires
-write-fixed-a-requires g c =
+pub write_fixed-a-requires : goal.write_fixed-a-requires
+write_fixed-a-requires g c =
     let i = c.loop-i.invariant in
     let w = within_now _ _ _ _ (omega arith) i.1 in
     (c.requires.0, rw i.0 (omega (arith, w)))
 
-pub overflow-add-read-in-loop-i : goal.overflow-add-read-in-loop-i
-overflow-add-read-in-loop-i g c =
+pub overflow_add-read-in-loop-i : goal.overflow_add-read-in-loop-i
+overflow_add-read-in-loop-i g c =
     let i = c.loop-i.invariant in
     let w = within_now _ _ _ _ (omega arith) i.1 in
     omega (arith, w, c.from-wide.ensures, c.gap-pad.ensures, c.requires.1)
@@ -22,7 +22,7 @@ overflow-add-read-in-loop-i g c =
 pub loop-i-preserved : goal.loop-i-preserved
 loop-i-preserved g c =
     let i = c.loop-i.invariant in
-    let q = c.write-fixed-a.ensures in
+    let q = c.write_fixed-a.ensures in
     let d = c.args.count - (c.loop-i.i + 1) in
     let n : c.args.count - c.loop-i.i ≡ suc d = omega arith in
     let xs = meaning (g.S.Source.content c.args.source.now) in
@@ -30,7 +30,7 @@ loop-i-preserved g c =
     let pad : c.gap-pad.result ≡ padded c.args.size - c.args.size = rw c.from-wide.ensures at c.gap-pad.ensures in
     let filled = fixed_filled xs c.args.kind c.args.size c.loop-i.read c.gap-pad.result c.requires.0 (omega (arith, w)) pad in
     let on : c.loop-i.read + (c.from-wide.result + c.gap-pad.result) ≡ fixed_next c.args.size c.loop-i.read = omega (arith, c.from-wide.ensures, c.gap-pad.ensures) in
-    (q.same ∙ i.0, within_more _ _ _ d _ _ n on i.1, leads_on {xs = fixed_form xs c.args.kind c.args.size c.loop-i.read} i.2 (walked_more _ _ _ d _ _ n on) (rw filled ((rw i.0 at q.value) ▷ c.pen-zeros-here.ensures)))
+    (q.same ∙ i.0, within_more _ _ _ d _ _ n on i.1, leads_on {xs = fixed_form xs c.args.kind c.args.size c.loop-i.read} i.2 (walked_more _ _ _ d _ _ n on) (rw filled ((rw i.0 at q.value) ▷ c.pen_zeros-here.ensures)))
 
 pub returns : goal.returns
 returns g c =

@@ -5,43 +5,43 @@ use Rattle.listform.specs.Forms.{number_there, sized_form, sized_next}
 use Rattle.listform.proofs.WalkSteps.{within_now, within_more, walked_more, walked_none}
 use Rattle.listform.proofs.values.sized_run.Goals as goal
 
-pub number-at-size-requires : goal.number-at-size-requires
-number-at-size-requires g c =
+pub number_at-size-requires : goal.number_at-size-requires
+number_at-size-requires g c =
     let i = c.loop-i.invariant in
     let w = within_now _ _ _ _ (omega arith) i.1 in
     rw i.0 (omega (arith, w))
 
-pub overflow-add-read : goal.overflow-add-read
-overflow-add-read g c =
+pub overflow_add-read : goal.overflow_add-read
+overflow_add-read g c =
     let i = c.loop-i.invariant in
     let w = within_now _ _ _ _ (omega arith) i.1 in
     omega (arith, w, c.requires.0)
 
-pub write-sized-here-requires : goal.write-sized-here-requires
-write-sized-here-requires g c =
+pub write_sized-here-requires : goal.write_sized-here-requires
+write_sized-here-requires g c =
     let i = c.loop-i.invariant in
-    let h = c.number-at-size.ensures in
+    let h = c.number_at-size.ensures in
     let w = within_now _ _ _ _ (omega arith) i.1 in
     let v = rw i.0 at h.value in
     rw (h.same, i.0) (omega (arith, w, v))
 
-pub overflow-add-read-in-loop-i-3 : goal.overflow-add-read-in-loop-i-3
-overflow-add-read-in-loop-i-3 g c =
+pub overflow_add-read-in-loop-i-3 : goal.overflow_add-read-in-loop-i-3
+overflow_add-read-in-loop-i-3 g c =
     let i = c.loop-i.invariant in
     let w = within_now _ _ _ _ (omega arith) i.1 in
-    let v = rw i.0 at c.number-at-size.ensures.value in
+    let v = rw i.0 at c.number_at-size.ensures.value in
     omega (arith, w, v, c.gap.ensures, c.requires.0)
 
 pub loop-i-preserved : goal.loop-i-preserved
 unfolding sized_form
 loop-i-preserved g c =
     let i = c.loop-i.invariant in
-    let h = c.number-at-size.ensures in
-    let q = c.write-sized-here.ensures in
+    let h = c.number_at-size.ensures in
+    let q = c.write_sized-here.ensures in
     let d = c.args.count - (c.loop-i.i + 1) in
     let n : c.args.count - c.loop-i.i ≡ suc d = omega arith in
-    let v : c.number-at-size.result ≡ number_there (meaning (g.S.Source.content c.args.source.now)) c.loop-i.read = rw i.0 at h.value in
-    let on : c.loop-i.read + (4 + c.number-at-size.result + c.gap.result) ≡ sized_next (meaning (g.S.Source.content c.args.source.now)) c.loop-i.read = omega (arith, v, c.gap.ensures) in
+    let v : c.number_at-size.result ≡ number_there (meaning (g.S.Source.content c.args.source.now)) c.loop-i.read = rw i.0 at h.value in
+    let on : c.loop-i.read + (4 + c.number_at-size.result + c.gap.result) ≡ sized_next (meaning (g.S.Source.content c.args.source.now)) c.loop-i.read = omega (arith, v, c.gap.ensures) in
     (q.same ∙ (h.same ∙ i.0), within_more _ _ _ d _ _ n on i.1, leads_on i.2 (walked_more _ _ _ d _ _ n on) (rw (h.same, i.0, v) at q.value))
 
 pub returns : goal.returns

@@ -4,6 +4,6 @@ use Rattle.listform.proofs.values.sized_values.Goals as goal
 
 pub returns : goal.returns
 returns g c =
-    let h = c.number-at-count.ensures in
-    let q = c.sized-run.ensures in
-    record { same = q.same ∙ h.same; value = rw (← h.value) (c.pen-le32-a.ensures ▷ (rw h.same at q.value)) }
+    let h = c.number_at-count.ensures in
+    let q = c.sized_run.ensures in
+    record { same = q.same ∙ h.same; value = rw (← h.value) (c.pen_le32-a.ensures ▷ (rw h.same at q.value)) }

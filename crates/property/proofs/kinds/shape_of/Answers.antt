@@ -26,15 +26,15 @@ pub returns-in-Some : goal.returns-in-Some
 returns-in-Some c = one _ _ c.in-Some.ensures
 
 pub returns-then-number-lt-SEVERAL : goal.returns-then-number-lt-SEVERAL
-returns-then-number-lt-SEVERAL c = low _ c.in-default.ensures (omega arith)
+returns-then-number-lt-SEVERAL c = low _ c.in_default.ensures (omega arith)
 
-pub returns-then-has-several : goal.returns-then-has-several
-returns-then-has-several c =
-    several _ _ true c.in-default.ensures (omega arith) c.in-Some-single-kind.ensures c.if-has-several.ensures
+pub returns-then-has_several : goal.returns-then-has_several
+returns-then-has_several c =
+    several _ _ true c.in_default.ensures (omega arith) c.in-Some-single_kind.ensures c.if-has_several.ensures
 
-pub returns-else-has-several : goal.returns-else-has-several
-returns-else-has-several c =
-    several _ _ false c.in-default.ensures (omega arith) c.in-Some-single-kind.ensures c.if-has-several.ensures
+pub returns-else-has_several : goal.returns-else-has_several
+returns-else-has_several c =
+    several _ _ false c.in_default.ensures (omega arith) c.in-Some-single_kind.ensures c.if-has_several.ensures
 
 pub returns-in-None : goal.returns-in-None
-returns-in-None c = neither _ c.in-default.ensures (omega arith) c.in-None.ensures
+returns-in-None c = neither _ c.in_default.ensures (omega arith) c.in-None.ensures

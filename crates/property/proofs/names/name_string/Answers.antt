@@ -7,43 +7,43 @@ use Rattle.property.proofs.KeyReads.{string_lost, string_long, string_open, stri
 use Rattle.property.proofs.Outcomes.{err_not_ok, ok_same}
 use Rattle.property.proofs.names.name_string.Goals as goal
 
-pub returns-in-err-n : goal.returns-in-err-n
-returns-in-err-n g c =
-    let p = err_from_is_err_and c.from-residual.result c.from-residual.ensures.1 in
-    let h = c.in-err-n.ensures in
+pub returns-in_err-n : goal.returns-in_err-n
+returns-in_err-n g c =
+    let p = err_from_is_err_and c.from_residual.result c.from_residual.ensures.1 in
+    let h = c.in_err-n.ensures in
     rw (p.1, p.2) (record { same = h.same; reads = string_lost _ _ _ _ _ _ h.reads; within = tt })
 
-pub returns-then-n-gt-NAME-LIMIT : goal.returns-then-n-gt-NAME-LIMIT
-returns-then-n-gt-NAME-LIMIT g c =
-    let h = c.in-ok-n.ensures in
+pub returns-then-n-gt-NAME_LIMIT : goal.returns-then-n-gt-NAME_LIMIT
+returns-then-n-gt-NAME_LIMIT g c =
+    let h = c.in_ok-n.ensures in
     let w = h.within in
     record { same = h.same; reads = string_long _ _ _ _ _ _ h.reads (omega arith) (omega arith); within = tt }
 
-pub returns-in-err-closed : goal.returns-in-err-closed
-returns-in-err-closed g c =
-    let h = c.in-ok-n.ensures in
+pub returns-in_err-closed : goal.returns-in_err-closed
+returns-in_err-closed g c =
+    let h = c.in_ok-n.ensures in
     let w = h.within in
     let l = ap (λ k. length (meaning k)) h.same in
-    absurd (omega (arith, (asked_lost is_text16 _ _ _ _ c.in-err-closed.ensures.value).0))
+    absurd (omega (arith, (asked_lost is_text16 _ _ _ _ c.in_err-closed.ensures.value).0))
 
 pub returns-then-not-closed : goal.returns-then-not-closed
 returns-then-not-closed g c =
-    let h = c.in-ok-n.ensures in
+    let h = c.in_ok-n.ensures in
     let w = h.within in
-    let t = c.in-ok-closed.ensures in
+    let t = c.in_ok-closed.ensures in
     let z = (asked_got is_text16 _ _ _ _ (rw h.same at t.value)).1 in
     record { same = t.same ∙ h.same; reads = string_open _ _ _ _ _ _ h.reads (omega arith) (omega arith) (sym z ∙ c.if-not-closed.true); within = tt }
 
-pub returns-in-err-text : goal.returns-in-err-text
-returns-in-err-text g c =
-    absurd (err_not_ok c.in-err-text.ensures.value)
+pub returns-in_err-text : goal.returns-in_err-text
+returns-in_err-text g c =
+    absurd (err_not_ok c.in_err-text.ensures.value)
 
 pub returns : goal.returns
 returns g c =
-    let h = c.in-ok-n.ensures in
+    let h = c.in_ok-n.ensures in
     let w = h.within in
-    let t = c.in-ok-closed.ensures in
-    let q = c.in-ok-text.ensures in
+    let t = c.in_ok-closed.ensures in
+    let q = c.in_ok-text.ensures in
     let z = (asked_got is_text16 _ _ _ _ (rw h.same at t.value)).1 in
     let u = rw (t.same, h.same) at q.value in
     let e = ok_same _ _ u in

@@ -4,15 +4,15 @@ use Rattle.property.proofs.Runs.{sized_lost, sized_wrong, sized_go}
 use Rattle.property.proofs.values.sized_values.Goals as goal
 use Rattle.property.proofs.values.sized_values.Goals.{then-several, else-several}
 
-pub returns-in-err-count : goal.returns-in-err-count
-returns-in-err-count g c =
-    let p = err_from_is_err_and c.from-residual.result c.from-residual.ensures.1 in
-    let h = c.in-err-count.ensures in
+pub returns-in_err-count : goal.returns-in_err-count
+returns-in_err-count g c =
+    let p = err_from_is_err_and c.from_residual.result c.from_residual.ensures.1 in
+    let h = c.in_err-count.ensures in
     rw (p.1, p.2) (record { same = h.same; reads = sized_lost _ _ _ _ _ _ _ h.reads; within = tt })
 
 pub returns-then-not-right : goal.returns-then-not-right
 returns-then-not-right g c =
-    let h = c.in-ok-count.ensures in
+    let h = c.in_ok-count.ensures in
     record {
       same = h.same;
       reads = sized_wrong _ _ _ _ _ _ _ h.reads
@@ -25,8 +25,8 @@ returns-then-not-right g c =
 
 pub returns : goal.returns
 returns g c =
-    let h = c.in-ok-count.ensures in
-    let n = c.sized-run.ensures in
+    let h = c.in_ok-count.ensures in
+    let n = c.sized_run.ensures in
     record {
       same = n.same ∙ h.same;
       reads = (rw h.same at n.reads) ∙ sized_go _ _ _ _ _ _ _ h.reads

@@ -22,11 +22,11 @@ returns-in-Fixed g c =
 pub returns-in-YesNo : goal.returns-in-YesNo
 unfolding values_at
 returns-in-YesNo g c =
-    let r = c.fixed-values-in-YesNo.ensures in
+    let r = c.fixed_values-in-YesNo.ensures in
     record { same = r.same; reads = rw c.in-YesNo.is (r.reads YesNo); within = r.within }
 
-pub returns-in-default : goal.returns-in-default
+pub returns-in_default : goal.returns-in_default
 unfolding values_at
-returns-in-default g c =
+returns-in_default g c =
     let r = c.sized_values.ensures in
-    record { same = r.same; reads = rw (no_width c.args.shape.kind c.in-default.not-Fixed c.in-default.not-YesNo) r.reads; within = r.within }
+    record { same = r.same; reads = rw (no_width c.args.shape.kind c.in_default.not-Fixed c.in_default.not-YesNo) r.reads; within = r.within }

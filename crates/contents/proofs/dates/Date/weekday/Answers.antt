@@ -3,4 +3,4 @@ use Rattle.contents.proofs.Days.{weekday_is}
 use Rattle.contents.proofs.dates.Date.weekday.Goals as goal
 
 pub returns : goal.returns
-returns c = weekday_is c.args.self _ _ _ (search rules) c.days-ahead-months.ensures.value (search rules)
+returns c = weekday_is c.args.self _ _ _ (search rules) c.days_ahead-months.ensures.value (search rules)
