@@ -1,5 +1,5 @@
 -- What judging a frame's data gives, by its rule; and a stream judged frame by frame.
-use Rattle.std.proofs.Common.{◌≡◌, ℕ, zero, suc, ◌+◌, ◌<◌, ◌≤◌, min, Bool, true, false, cond, List, ◌∷◌, length, is_some, Some, None, Ok, Err, Option, sym, refl, ap, ◌∙◌, arith}
+use Rattle.std.proofs.Common.{◌≡◌, ℕ, zero, suc, ◌+◌, ◌<◌, ◌≤◌, cond, List, ◌∷◌, length, is_some, Some, None, Ok, Err, Option, sym, refl, ap, ◌∙◌, arith}
 use Rattle.source.specs.Bytes.{part}
 use Rattle.source.specs.Outcome.{Outcome, ◌>>=◌, given, over, refused}
 use Rattle.source.specs.declared.refusals.Reason.TheVariants.{NotAdmitted, StreamEnd}
@@ -12,7 +12,7 @@ use Rattle.frame.specs.declared.Frame.{Frame}
 use Rattle.frame.specs.declared.stages.Stage.{Stage}
 use Rattle.frame.specs.declared.stages.Stage.TheVariants as stage
 use Rattle.frame.proofs.Checks.{head_short, frame_short, frames_go_on}
-use Rattle.frame.proofs.Standing.{Stands, next_stands}
+use Rattle.frame.proofs.Standing.{next_stands}
 use Rattle.contents.specs.Contents.{Contents, means, admits}
 use Rattle.property.specs.Fields.{data_end}
 use Rattle.property.specs.Lists.{property_list, recipient_table}

@@ -1,7 +1,7 @@
 -- The frames of a stream with what their data mean, or the first refusal.
 use Rattle.std.specs.Prelude.{ℕ, zero, suc, ◌+◌, List, [], ◌∷◌, length, Some, None, Ok, Option}
 use Rattle.source.specs.Bytes.{part}
-use Rattle.source.specs.Outcome.{Outcome, ◌>>=◌, ◌>>◌, given, over, refused}
+use Rattle.source.specs.Outcome.{Outcome, ◌>>=◌, given, over, refused}
 use Rattle.source.specs.declared.refusals.Reason.TheVariants.{StreamEnd, NotAdmitted}
 use Rattle.attribute.specs.declared.Rule.{Rule}
 use Rattle.attribute.specs.declared.Rule.TheVariants as rule

@@ -1,7 +1,6 @@
 use Rattle.std.proofs.Common.{◌≡◌, ◌-◌, ◌<◌, ◌≤◌}
 use Rattle.source.specs.Content.{meaning, source_limit}
-use Rattle.stream.specs.Reading.{entries_of}
-use Rattle.stream.proofs.Judging.{told, rest_at}
+use Rattle.stream.proofs.Judging.{rest_at}
 use Rattle.stream.proofs.judge.Given as goal
 
 abbrev pub invariant-loop-frame : goal.invariant-loop-frame

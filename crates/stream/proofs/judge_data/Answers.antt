@@ -1,25 +1,23 @@
-use Rattle.std.proofs.Common.{◌≡◌, ◌+◌, ◌≤◌, true, false, length, sym, ap, ◌∙◌, arith}
-use Rattle.source.specs.Bytes.{part}
+use Rattle.std.proofs.Common.{◌+◌, sym, ◌∙◌, arith}
 use Rattle.source.specs.Content.{meaning}
 use Rattle.scan.proofs.Parts.{asked_got, asked_lost}
-use Rattle.contents.specs.Contents.{admits}
-use Rattle.stream.proofs.Judging.{told, data_ends, by_rule, by_table, by_list}
+use Rattle.stream.proofs.Judging.{data_ends, by_rule, by_table, by_list}
 use Rattle.stream.proofs.judge_data.Goals as goal
 
-pub returns-in-err-good : goal.returns-in-err-good
-returns-in-err-good g c = absurd (omega (arith, (asked_lost _ _ _ _ _ c.in-err-good.ensures.value).0))
+pub returns-in_err-good-in_default : goal.returns-in_err-good-in_default
+returns-in_err-good-in_default g c = absurd (omega (arith, (asked_lost _ _ _ _ _ c.in_err-good-in_default.ensures.value).0))
 
 pub returns-then-not-good : goal.returns-then-not-good
 returns-then-not-good g c =
-    let h = c.in-ok-good.ensures in
+    let h = c.in_ok-good-in_default.ensures in
     let a = sym (asked_got _ _ _ _ _ h.value).1 ∙ c.if-not-good.true in
-    record { same = h.same; reads = sym (by_rule _ _ _ _ c.in-default.not-Recipients c.in-default.not-Properties ∙ rw a) }
+    record { same = h.same; reads = sym (by_rule _ _ _ _ c.in_default.not-Recipients c.in_default.not-Properties ∙ rw a) }
 
 pub returns-else-not-good : goal.returns-else-not-good
 returns-else-not-good g c =
-    let h = c.in-ok-good.ensures in
+    let h = c.in_ok-good-in_default.ensures in
     let a = sym (asked_got _ _ _ _ _ h.value).1 ∙ c.if-not-good.false in
-    record { same = h.same; reads = sym (by_rule _ _ _ _ c.in-default.not-Recipients c.in-default.not-Properties ∙ rw a) }
+    record { same = h.same; reads = sym (by_rule _ _ _ _ c.in_default.not-Recipients c.in_default.not-Properties ∙ rw a) }
 
 pub returns-in-Recipients : goal.returns-in-Recipients
 returns-in-Recipients g c =

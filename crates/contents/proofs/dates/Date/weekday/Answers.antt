@@ -1,4 +1,4 @@
-use Rattle.std.proofs.Common.{◌-◌, rules}
+use Rattle.std.proofs.Common.{rules}
 use Rattle.contents.proofs.Days.{weekday_is}
 use Rattle.contents.proofs.dates.Date.weekday.Goals as goal
 
