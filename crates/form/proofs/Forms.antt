@@ -1,5 +1,5 @@
 -- The parts of what is written of a stream are the written form of the message that it carries.
-use Rattle.std.proofs.Common.{◌≡◌, ℕ, ◌+◌, List, [], ◌∷◌, ◌++◌, map, Some, sym, refl, ap, ◌∙◌, append_assoc}
+use Rattle.std.proofs.Common.{◌≡◌, ℕ, List, [], ◌∷◌, ◌++◌, map, Some, sym, refl, ap, ◌∙◌, append_assoc}
 use Rattle.std.specs.List.{flat_map, AllByRecursion as All}
 use Rattle.attribute.specs.Table.{attribute_of, message_attributes, message_properties_id, version_id, code_page_id}
 use Rattle.frame.specs.Frames.{signature}

@@ -16,7 +16,7 @@ use Rattle.index.specs.declared.attributes.AttributeRow.{AttributeRow}
 use Rattle.index.specs.Rows.{has, before, position, added}
 use Rattle.stream.specs.Reading.{Entry}
 use Rattle.stream.specs.Messages.{or_else, message_part}
-use Rattle.form.specs.Targets.{remaining, Readable, own_part, later_part, past_part, row_entry, Standing, frame_row, own_next, entry_under, row_under, same_id, AsWritten, NormalRow, Taken}
+use Rattle.form.specs.Targets.{remaining, Readable, own_part, later_part, past_part, row_entry, Standing, frame_row, own_next, entry_under, row_under, same_id, AsWritten, NormalRow, Taken, StaysWritten}
 use Rattle.form.proofs.Walks.{steps, ends}
 use Rattle.form.proofs.Normals.{frame_normal, written_on}
 
@@ -239,9 +239,10 @@ module _ (xs : List ℕ) (p : ℕ) (s : Stage) (used : ℕ) (rows : List Attribu
     rest = sym (g.past ∙ b);
     after = g.good;
     onward = on;
-    along = g.along;
-    normal = g.normal;
   }
+
+pub gather_written : (xs : List ℕ) (p : ℕ) (s : Stage) (used : ℕ) (rows : List AttributeRow) (q : ℕ) (t : Stage) → Gathering xs p s used rows q t → StaysWritten xs p s (take used rows) q t
+gather_written xs p s used rows q t g = record { along = g.along; normal = g.normal }
 
 left_none : (used : ℕ) → (left_part used [] ≡ []) × (left_past used [] ≡ [])
 unfolding own_part past_part message_part later_part

@@ -12,7 +12,7 @@ use Rattle.attribute.specs.declared.Rule.TheVariants as rule
 use Rattle.contents.specs.Contents.{Contents, code_page, means, admits, normal, normal_data, code_page_in, primary_number}
 use Rattle.contents.proofs.Parts.{also_some}
 use Rattle.index.specs.declared.attributes.AttributeRow.{AttributeRow}
-use Rattle.stream.specs.Reading.{Meant, primary, page, meant_as}
+use Rattle.stream.specs.Reading.{Meant, primary, meant_as}
 use Rattle.stream.specs.Messages.{or_default, as_primary}
 use Rattle.stream.specs.Writing.{write_entry}
 use Rattle.form.specs.Framing.{framed}

@@ -1,10 +1,10 @@
 -- What restating answers, at each of its ends.
-use Rattle.std.proofs.Common.{◌≡◌, ℕ, ◌-◌, ◌<◌, ◌≤◌, min, true, false, ◌&&◌, leb, List, length, take, Some, None, Ok, Err, sym, refl, ap, arith}
+use Rattle.std.proofs.Common.{◌≡◌, ℕ, ◌<◌, ◌≤◌, min, true, false, ◌&&◌, leb, List, length, take, Some, None, Ok, Err, sym, refl, ap, arith}
 use Rattle.std.proofs.lemmas.List.{length-take}
 use Rattle.std.proofs.lemmas.Bool.{le-leb, lt-leb}
 use Rattle.std.proofs.lemmas.Bool.Decides.{nat_tests}
 use Rattle.source.specs.Content.{source_limit}
-use Rattle.source.specs.Outcome.{Outcome, ◌>>=◌, ◌>>◌, over, refused}
+use Rattle.source.specs.Outcome.{Outcome, ◌>>=◌, over, refused}
 use Rattle.source.specs.declared.refusals.Reason.TheVariants.{ShortWork, FormTooLong}
 use Rattle.source.specs.declared.refusals.Refusal.{Refusal}
 use Rattle.source.proofs.Outcomes.{err_not_ok, over_lost}

@@ -1,5 +1,5 @@
 -- The size of a frame's data is the number that stands in its head.
-use Rattle.std.proofs.Common.{◌≡◌, ℕ, ◌+◌, List, get_or, Ok, refl, ap, ◌∙◌}
+use Rattle.std.proofs.Common.{◌≡◌, ℕ, ◌+◌, List, get_or, Ok, ap, ◌∙◌}
 use Rattle.source.specs.Bytes.{part, val}
 use Rattle.source.proofs.Outcomes.{ok_same, bind_got, then_got}
 use Rattle.frame.specs.Frames.{head_at, head_judged, sum_judged, frame_at}

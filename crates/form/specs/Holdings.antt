@@ -1,7 +1,7 @@
 -- What rows hold, and the frames that are written of it.
 use Rattle.std.specs.Prelude.{◌≡◌, ℕ, List, [], ◌++◌, map, Some, None, Option}
 use Rattle.std.specs.List.{flat_map}
-use Rattle.attribute.specs.Table.{attribute, attribute_of, message_attributes, attachment_attributes, rendering_attribute, code_page_id, recipients_id, message_properties_id, attachment_properties_id}
+use Rattle.attribute.specs.Table.{attribute_of, message_attributes, attachment_attributes, rendering_attribute, code_page_id, recipients_id, message_properties_id, attachment_properties_id}
 use Rattle.attribute.specs.declared.Attribute.{Attribute}
 use Rattle.contents.specs.Contents.{Contents}
 use Rattle.index.specs.declared.attributes.AttributeRow.{AttributeRow}

@@ -104,5 +104,8 @@ pub record Taken (xs : List ℕ) (p : ℕ) (s : Stage) (rows : List AttributeRow
   pub rest : remaining xs q t ≡ past_part (remaining xs p s)
   pub after : Readable xs q t
   pub onward : p < length xs → p < q
+
+-- A target of a stream that is as its entries are written: what is left of the stream is so too, and the rows' data are normal.
+pub record StaysWritten (xs : List ℕ) (p : ℕ) (s : Stage) (rows : List AttributeRow) (q : ℕ) (t : Stage) : Type 0 where
   pub along : AsWritten xs p s → AsWritten xs q t
   pub normal : AsWritten xs p s → All (NormalRow xs) rows

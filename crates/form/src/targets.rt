@@ -5,7 +5,7 @@ ghost use Rattle.attribute.specs.Table.{attributes};
 ghost use Rattle.frame.specs.Frames.{next_frame};
 ghost use Rattle.contents.specs.Writing.{known};
 ghost use Rattle.index.specs.Rows.{added};
-ghost use Rattle.form.specs.Targets.{Readable, Taken, own_next, row_under, same_id};
+ghost use Rattle.form.specs.Targets.{Readable, Taken, StaysWritten, own_next, row_under, same_id};
 
 use attribute::ATT_RENDERING;
 use frame::{Frame, Stage, next_frame};
@@ -73,6 +73,7 @@ pub fn gather<S: Source>(
     ensures same { S.Source.content source.new ≡ S.Source.content source.old }
     ensures within { result.used ≤ length rows.new }
     ensures value { Taken (meaning (S.Source.content source.old)) start first (take result.used rows.new) result.place result.stage }
+    ensures written { StaysWritten (meaning (S.Source.content source.old)) start first (take result.used rows.new) result.place result.stage }
 {
     let _total = source.len();
     let mut used = 0;

@@ -14,7 +14,7 @@ use Rattle.stream.specs.Reading.{Entry}
 use Rattle.stream.specs.Messages.{Holding, holding_of, attachment_parts}
 use Rattle.property.specs.Lists.{Property}
 use Rattle.message.specs.Sameness.{nth, row_holding}
-use Rattle.form.specs.Targets.{remaining, Readable, own_part, past_part, Taken}
+use Rattle.form.specs.Targets.{remaining, Readable, own_part, past_part, Taken, StaysWritten}
 use Rattle.form.specs.Wholes.{Rendered}
 use Rattle.form.proofs.Walks.{steps, ends}
 use Rattle.form.proofs.Beginnings.{head, later_parts, past_rendered}
@@ -54,19 +54,19 @@ module _ (xs : List ℕ) (p : ℕ) (s : Stage) (g : Readable xs p s) where
   parts_more r h q t e = let (x, es, m, d) = head xs p s g r h in rw e (rw m (parts_cons x es d))
 
 module _ (xs : List ℕ) where
-  pub passed_none : (rows : List AttributeRow) (q : ℕ) (t : Stage) → Readable xs 6 Version → Taken xs 6 Version rows q t → Passed xs 0 q t
-  passed_none rows q t g k = record {
+  pub passed_none : (rows : List AttributeRow) (q : ℕ) (t : Stage) → Readable xs 6 Version → Taken xs 6 Version rows q t → StaysWritten xs 6 Version rows q t → Passed xs 0 q t
+  passed_none rows q t g k a = record {
     good = k.after;
     rendered = rest_rendered xs rows q t g k;
     front = [];
     counted = refl;
     split = ap (map holding_of) (sym (parts_is xs rows q t g k));
     few = k.after.begun;
-    along = k.along;
+    along = a.along;
   }
 
-  pub passed_more : (n p : ℕ) (s : Stage) (rows : List AttributeRow) (q : ℕ) (t : Stage) → Passed xs n p s → p < length xs → Taken xs p s rows q t → Passed xs (n + 1) q t
-  passed_more n p s rows q t w h k = record {
+  pub passed_more : (n p : ℕ) (s : Stage) (rows : List AttributeRow) (q : ℕ) (t : Stage) → Passed xs n p s → p < length xs → Taken xs p s rows q t → StaysWritten xs p s rows q t → Passed xs (n + 1) q t
+  passed_more n p s rows q t w h k b = record {
     good = k.after;
     rendered = rw k.rest (past_rendered _);
     front = w.front ++ holding_of (own_part (remaining xs p s)) ∷ [];
@@ -74,7 +74,7 @@ module _ (xs : List ℕ) where
     split = w.split ∙ ap (λ l. w.front ++ map holding_of l) (parts_more xs p s w.good w.rendered h q t k.rest)
         ∙ sym (append_assoc w.front (holding_of (own_part (remaining xs p s)) ∷ []) _);
     few = omega (arith, k.onward h, w.few);
-    along = λ a. k.along (w.along a);
+    along = λ a. b.along (w.along a);
   }
 
   -- The next attachment, and none.

@@ -12,7 +12,7 @@ use Rattle.property.specs.Lists.{Property, indexed}
 use Rattle.stream.specs.Messages.{Holding, or_default, first, contents_under, as_list, as_table, properties_of, rows_of, holding_of}
 use Rattle.stream.specs.Writing.{entry_data}
 use Rattle.message.specs.Sameness.{contents_held}
-use Rattle.form.specs.Targets.{remaining, Readable, own_part, row_under, AsWritten, NormalRow, Taken}
+use Rattle.form.specs.Targets.{remaining, Readable, own_part, row_under, AsWritten, NormalRow, Taken, StaysWritten}
 use Rattle.form.specs.Holdings.{Plain, told_by, told_in}
 use Rattle.form.specs.Wholes.{Rendered}
 use Rattle.form.proofs.Natures.{level_of, Apt, all_apt, own_levels}
@@ -24,9 +24,9 @@ use Rattle.form.proofs.Forms.{own_is, own_level, page_told}
 use Rattle.lookup.specs.Finding.{list_in, table_in, Says, SaysMessage, ContentsStand, NormalStand}
 
 module _ (xs : List ℕ) where
-  pub says_message : (rows : List AttributeRow) (q : ℕ) (t : Stage) → Readable xs 6 Version → Taken xs 6 Version rows q t → SaysMessage xs rows
+  pub says_message : (rows : List AttributeRow) (q : ℕ) (t : Stage) → Readable xs 6 Version → Taken xs 6 Version rows q t → StaysWritten xs 6 Version rows q t → SaysMessage xs rows
   unfolding properties_of rows_of attribute_of
-  says_message rows q t g k =
+  says_message rows q t g k b =
       let es = own_part (remaining xs 6 Version) in
       let same = sym (own_is xs rows q t g k) in
       let apt = own_all Apt _ (all_apt xs _ 6 Version g refl) in
@@ -35,16 +35,16 @@ module _ (xs : List ℕ) where
           sound = k.gathered.sound;
           attributes = λ a p. contents_same xs es rows k.gathered apt a p ∙ ap (first (contents_under a.id)) same;
           properties = ap (λ o. indexed (or_default o [])) (list_same xs es rows k.gathered apt 1 refl (own_level xs rows q t g k) ∙ ap (first (λ e. as_list e.meant)) same);
-          normal = k.normal;
+          normal = b.normal;
         };
         page = let (n, a, b) = page_told xs rows q t g k in ap (λ o. or_default o 0) a ∙ sym b;
         table = ap (λ o. map indexed (or_default o [])) (table_same xs es rows k.gathered apt ∙ ap (first (λ e. as_table e.meant)) same);
       }
 
   pub says_attachment : (p : ℕ) (s : Stage) (rows : List AttributeRow) (q : ℕ) (t : Stage) → Readable xs p s → Rendered (remaining xs p s) → p < length xs
-      → (AsWritten xs 6 Version → AsWritten xs p s) → Taken xs p s rows q t → Says xs rows attachment_properties_id (holding_of (own_part (remaining xs p s)))
+      → (AsWritten xs 6 Version → AsWritten xs p s) → Taken xs p s rows q t → StaysWritten xs p s rows q t → Says xs rows attachment_properties_id (holding_of (own_part (remaining xs p s)))
   unfolding properties_of attribute_of
-  says_attachment p s rows q t g r h w k =
+  says_attachment p s rows q t g r h w k b =
       let (e, es, m, d) = head xs p s g r h in
       let level = own_levels xs p s e es g m in
       let two : level_of e.id ≡ 2 = ap level_of d ∙ rendering_level xs p s g r h in
@@ -54,7 +54,7 @@ module _ (xs : List ℕ) where
         sound = k.gathered.sound;
         attributes = λ a n. contents_same xs (own_part (remaining xs p s)) rows k.gathered apt a n;
         properties = ap (λ o. indexed (or_default o [])) (list_same xs (own_part (remaining xs p s)) rows k.gathered apt 2 refl l);
-        normal = λ a. k.normal (w a);
+        normal = λ a. b.normal (w a);
       }
 
   -- The table and the list under an id, where their row is found and where it is not.

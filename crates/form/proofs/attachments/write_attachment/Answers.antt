@@ -7,22 +7,22 @@ use Rattle.form.specs.Holdings.{Plain, attachment_bytes}
 use Rattle.form.proofs.Tells.{rendering_plain, attachment_plain, attachment_listed}
 use Rattle.form.proofs.attachments.write_attachment.Goals as goal
 
-pub write-attribute-rendering-requires : goal.write-attribute-rendering-requires
-write-attribute-rendering-requires g c = record { fits = c.requires.fits; sound = c.requires.sound; simple = rendering_plain }
+pub write_attribute-rendering-requires : goal.write_attribute-rendering-requires
+write_attribute-rendering-requires g c = record { fits = c.requires.fits; sound = c.requires.sound; simple = rendering_plain }
 
-pub write-attributes-attributes-requires : goal.write-attributes-attributes-requires
-write-attributes-attributes-requires g c =
-    let r = c.write-attribute-rendering.ensures in
+pub write_attributes-attributes-requires : goal.write_attributes-attributes-requires
+write_attributes-attributes-requires g c =
+    let r = c.write_attribute-rendering.ensures in
     record {
       fits = omega (arith, r.value.kept, c.requires.fits);
       sound = subst (λ t. All (Standing (meaning t)) c.args.rows.now) (sym r.same) c.requires.sound;
-      simple = subst (λ t. All Plain t) (sym c.attachment-table.ensures) attachment_plain;
+      simple = subst (λ t. All Plain t) (sym c.attachment_table.ensures) attachment_plain;
     }
 
-pub write-properties-requires : goal.write-properties-requires
-write-properties-requires g c =
-    let r = c.write-attribute-rendering.ensures in
-    let a = c.write-attributes-attributes.ensures in
+pub write_properties-requires : goal.write_properties-requires
+write_properties-requires g c =
+    let r = c.write_attribute-rendering.ensures in
+    let a = c.write_attributes-attributes.ensures in
     record {
       fits = omega (arith, r.value.kept, a.value.kept, c.requires.fits);
       room = c.requires.room;
@@ -33,10 +33,10 @@ write-properties-requires g c =
 pub returns : goal.returns
 unfolding attachment_bytes
 returns g c =
-    let r = c.write-attribute-rendering.ensures in
-    let a = c.write-attributes-attributes.ensures in
+    let r = c.write_attribute-rendering.ensures in
+    let a = c.write_attributes-attributes.ensures in
     let p = c.write_properties.ensures in
     record {
       same = p.same ∙ a.same ∙ r.same;
-      value = r.value ▷ ((rw (r.same, c.attachment-table.ensures) at a.value) ▷ (rw (a.same ∙ r.same) at p.value));
+      value = r.value ▷ ((rw (r.same, c.attachment_table.ensures) at a.value) ▷ (rw (a.same ∙ r.same) at p.value));
     }

@@ -5,7 +5,7 @@ use Rattle.form.proofs.attachments.write_next.Goals as goal
 pub returns : goal.returns
 returns g c =
     let t = c.gather-target.ensures in
-    let w = c.write-attachment-here.ensures in
+    let w = c.write_attachment-here.ensures in
     let e = next_attached _ _ _ c.requires.good c.requires.rendered c.requires.more _ _ _ t.value in
     let z : c.gather-target.result.used - 0 ≡ c.gather-target.result.used = omega arith in
     record {

@@ -4,14 +4,14 @@ use Rattle.pen.proofs.Pens.{pen_none}
 use Rattle.form.proofs.Holds.{row_admitted, bytes_some, bytes_none}
 use Rattle.form.proofs.attributes.write_attribute.Goals as goal
 
-pub write-row-requires : goal.write-row-requires
-write-row-requires g c =
+pub write_row-requires : goal.write_row-requires
+write_row-requires g c =
     record { fits = c.requires.fits; good = row_admitted _ c.args.attribute c.requires.simple _ _ c.requires.sound c.in-Some.ensures }
 
 pub returns-in-Some : goal.returns-in-Some
 returns-in-Some g c =
     let e = bytes_some _ c.args.attribute c.requires.simple _ _ c.requires.sound c.in-Some.ensures in
-    record { same = c.write-row.ensures.same; value = rw e c.write-row.ensures.value }
+    record { same = c.write_row.ensures.same; value = rw e c.write_row.ensures.value }
 
 pub returns-in-None : goal.returns-in-None
 returns-in-None g c =

@@ -8,8 +8,8 @@ use Rattle.form.proofs.Framings.{leads_on, leads_end}
 use Rattle.form.proofs.Holds.{attributes_more, attributes_none}
 use Rattle.form.proofs.attributes.write_attributes.Goals as goal
 
-pub write-attribute-here-requires : goal.write-attribute-here-requires
-write-attribute-here-requires g c = record {
+pub write_attribute-here-requires : goal.write_attribute-here-requires
+write_attribute-here-requires g c = record {
   fits = omega (arith, c.loop-attribute.auto.out, c.requires.fits);
   sound = subst (λ t. All (Standing (meaning t)) c.args.rows.now) (sym c.loop-attribute.invariant.0) c.requires.sound;
   simple = All-get_or Plain c.args.table.now _ _ c.loop-attribute-test.true c.requires.simple;
@@ -21,7 +21,7 @@ loop-attribute-init g c = (refl, λ a r q. q)
 pub loop-attribute-preserved : goal.loop-attribute-preserved
 loop-attribute-preserved g c =
     let i = c.loop-attribute.invariant in
-    let h = c.write-attribute-here.ensures in
+    let h = c.write_attribute-here.ensures in
     (h.same ∙ i.0, leads_on i.1 (attributes_more _ _ c.args.table.now c.loop-attribute.attribute-index _ c.loop-attribute-test.true) (rw i.0 at h.value))
 
 pub returns : goal.returns

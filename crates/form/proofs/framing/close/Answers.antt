@@ -5,8 +5,8 @@ use Rattle.pen.proofs.Pens.{le_two}
 use Rattle.form.proofs.Framings.{length_framed, closed}
 use Rattle.form.proofs.framing.close.Goals as goal
 
-pub returns-then-out-end-lt-CHECKSUM-SIZE : goal.returns-then-out-end-lt-CHECKSUM-SIZE
-returns-then-out-end-lt-CHECKSUM-SIZE c =
+pub returns-then-out-end-lt-CHECKSUM_SIZE : goal.returns-then-out-end-lt-CHECKSUM_SIZE
+returns-then-out-end-lt-CHECKSUM_SIZE c =
     omega (
       arith,
       length_framed c.args.level c.args.id (part c.args.out.now (c.args.start + 9) (c.args.end - (c.args.start + 9))),
@@ -16,5 +16,5 @@ returns-then-out-end-lt-CHECKSUM-SIZE c =
 pub returns : goal.returns
 unfolding part
 returns c =
-    closed c.args.out.now c.put.new.out c.put-2.new.out c.args.start c.args.end c.args.level c.args.id c.head.result c.to-le-bytes.result
-    (omega arith) (omega arith) c.head.ensures (c.to-le-bytes.ensures ∙ sym (le_two _) ∙ ap (le 2) c.summed-sum.ensures) c.put.ensures c.put-2.ensures
+    closed c.args.out.now c.put.new.out c.put-2.new.out c.args.start c.args.end c.args.level c.args.id c.head.result c.to_le_bytes.result
+    (omega arith) (omega arith) c.head.ensures (c.to_le_bytes.ensures ∙ sym (le_two _) ∙ ap (le 2) c.summed-sum.ensures) c.put.ensures c.put-2.ensures

@@ -13,29 +13,29 @@ pub returns-then-empty : goal.returns-then-empty
 returns-then-empty g c =
     let xs = meaning (g.S.Source.content c.args.source.now) in
     let (ps, h) = table_held xs c.args.rows.now c.requires.sound (attribute recipients_id 1 Recipients) c.in-Some.row c.in-Some.ensures recipients_known refl in
-    let z = eqb-true _ 0 (sym (c.is-empty-empty.ensures.value h.room) ∙ c.if-empty.true) in
-    record { same = c.is-empty-empty.ensures.same; value = rw (table_short xs c.args.rows.now _ ps h z) pen_none }
+    let z = eqb-true _ 0 (sym (c.is_empty-empty.ensures.value h.room) ∙ c.if-empty.true) in
+    record { same = c.is_empty-empty.ensures.same; value = rw (table_short xs c.args.rows.now _ ps h z) pen_none }
 
-pub overflow-add-row : goal.overflow-add-row
-overflow-add-row g c =
+pub overflow_add-row : goal.overflow_add-row
+overflow_add-row g c =
     let (_, h) = table_held (meaning (g.S.Source.content c.args.source.now)) c.args.rows.now c.requires.sound (attribute recipients_id 1 Recipients) c.in-Some.row c.in-Some.ensures recipients_known refl in
-    omega (arith, h.within, c.len-total.ensures.value, c.len-total.type-inv)
+    omega (arith, h.within, c.len-total.ensures.value, c.len-total.type_inv)
 
-pub pen-close-requires : goal.pen-close-requires
-pen-close-requires g c =
+pub pen_close-requires : goal.pen_close-requires
+pen_close-requires g c =
     let (ps, h) = table_held (meaning (g.S.Source.content c.args.source.now)) c.args.rows.now c.requires.sound (attribute recipients_id 1 Recipients) c.in-Some.row c.in-Some.ensures recipients_known refl in
-    let w = (rw c.is-empty-empty.ensures.same at c.write-table-end.ensures.value) ps h.reads h.within c.requires.room in
-    (pen_closable c.args.here c.pen-open-body.ensures w, omega (arith, w.kept, c.requires.fits))
+    let w = (rw c.is_empty-empty.ensures.same at c.write_table-end.ensures.value) ps h.reads h.within c.requires.room in
+    record { closable = pen_closable c.args.here c.pen_open-body.ensures w; out_len_bound = omega (arith, w.kept, c.requires.fits) }
 
 pub returns-else-empty : goal.returns-else-empty
 returns-else-empty g c =
     let xs = meaning (g.S.Source.content c.args.source.now) in
     let (ps, h) = table_held xs c.args.rows.now c.requires.sound (attribute recipients_id 1 Recipients) c.in-Some.row c.in-Some.ensures recipients_known refl in
-    let n = eqb-false _ 0 (sym (c.is-empty-empty.ensures.value h.room) ∙ c.if-empty.false) in
-    let w = (rw c.is-empty-empty.ensures.same at c.write-table-end.ensures.value) ps h.reads h.within c.requires.room in
+    let n = eqb-false _ 0 (sym (c.is_empty-empty.ensures.value h.room) ∙ c.if-empty.false) in
+    let w = (rw c.is_empty-empty.ensures.same at c.write_table-end.ensures.value) ps h.reads h.within c.requires.room in
     record {
-      same = c.write-table-end.ensures.same ∙ c.is-empty-empty.ensures.same;
-      value = rw (table_long xs c.args.rows.now _ ps h n) (pen_frame c.pen-open-body.ensures w c.pen-close.ensures);
+      same = c.write_table-end.ensures.same ∙ c.is_empty-empty.ensures.same;
+      value = rw (table_long xs c.args.rows.now _ ps h n) (pen_frame c.pen_open-body.ensures w c.pen_close.ensures);
     }
 
 pub returns-in-None : goal.returns-in-None

@@ -5,8 +5,8 @@ use Rattle.form.specs.Targets.{same_id}
 use Rattle.form.proofs.Gathers.{row_at, row_none}
 use Rattle.form.proofs.targets.row_under.Goals as goal
 
-pub offset-bounds-rows-k : goal.offset-bounds-rows-k
-offset-bounds-rows-k c =
+pub offset_bounds-rows-k : goal.offset_bounds-rows-k
+offset_bounds-rows-k c =
     let h : c.in-Some.k < length c.args.rows.now = position_below same_id c.args.rows.now _ _ c.in-Some.ensures in search rules
 
 pub bounds-rows-k : goal.bounds-rows-k

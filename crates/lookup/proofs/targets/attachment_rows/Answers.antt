@@ -30,6 +30,6 @@ returns g c =
         _,
         ap (nth (message_in xs).attachments) (sym (w.stopped l)) ∙ here,
         t.within,
-        says_attachment xs _ _ _ _ _ w.value.good w.value.rendered l w.value.along (rw w.same at t.value),
+        says_attachment xs _ _ _ _ _ w.value.good w.value.rendered l w.value.along (rw w.same at t.value) (rw w.same at t.written),
       );
     }

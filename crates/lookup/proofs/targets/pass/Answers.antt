@@ -5,7 +5,7 @@ use Rattle.lookup.proofs.targets.pass.Goals as goal
 pub loop-count-init : goal.loop-count-init
 loop-count-init g c =
     let t = c.gather-target.ensures in
-    (refl, rw t.same (passed_none _ _ _ _ c.requires.good t.value), omega arith, search rules)
+    (refl, rw t.same (passed_none _ _ _ _ c.requires.good t.value t.written), omega arith, search rules)
 
 pub overflow-add-count : goal.overflow-add-count
 overflow-add-count g c = omega (arith, c.loop-count-test.true, c.ranges.most)
@@ -16,7 +16,7 @@ loop-count-preserved g c =
     let n = c.gather-next.ensures in
     let l = c.gather-target.ensures.same in (
       n.same ∙ i.0,
-      passed_more _ _ _ _ _ _ _ i.1 (rw l (omega (arith, c.if-place-total.true, c.len-total.ensures.value))) (rw i.0 at n.value),
+      passed_more _ _ _ _ _ _ _ i.1 (rw l (omega (arith, c.if-place-total.true, c.len-total.ensures.value))) (rw i.0 at n.value) (rw i.0 at n.written),
       omega (arith, c.loop-count-test.true),
       omega (arith, c.gather-next.auto.rows, i.3),
     )
