@@ -7,15 +7,15 @@ use Rattle.amend.proofs.attachings.write_changed_attachments.Goals as goal
 
 pub returns-in-AsBefore : goal.returns-in-AsBefore
 returns-in-AsBefore g c = record {
-  same = c.write-attachments.ensures.same;
+  same = c.write_attachments.ensures.same;
   kept = refl;
-  value = λ β m. rw (before_means (meaning (g.T.Source.content c.args.input.now)) β (rw c.in-AsBefore.is at m)) (rw all_bytes at c.write-attachments.ensures.value);
+  value = λ β m. rw (before_means (meaning (g.T.Source.content c.args.input.now)) β (rw c.in-AsBefore.is at m)) (rw all_bytes at c.write_attachments.ensures.value);
 }
 
 pub returns-in-Changed : goal.returns-in-Changed
 unfolding nth_touched
 returns-in-Changed g c =
-    let w = c.write-touched.ensures in
+    let w = c.write_touched.ensures in
     record {
       same = w.same;
       kept = w.kept;

@@ -5,8 +5,8 @@ use Rattle.form.specs.Wholes.{Rendered}
 use Rattle.amend.proofs.Attached.{behind_rendered, behind_bytes}
 use Rattle.amend.proofs.attachments.write_behind.Goals as goal
 
-pub write-attachments-requires : goal.write-attachments-requires
-write-attachments-requires g c =
+pub write_attachments-requires : goal.write_attachments-requires
+write_attachments-requires g c =
     let t = c.gather-target.ensures in
     record {
       fits = c.requires.fits;
@@ -18,6 +18,6 @@ write-attachments-requires g c =
 pub returns : goal.returns
 returns g c =
     let t = c.gather-target.ensures in
-    let a = c.write-attachments.ensures in
+    let a = c.write_attachments.ensures in
     let e = behind_bytes _ _ c.requires.rendered t.value.rest in
     record { same = a.same ∙ t.same; value = rw (← e) (rw t.same at a.value) }

@@ -7,7 +7,7 @@ use Rattle.amend.proofs.attachments.write_first.Goals as goal
 pub loop-left-preserved : goal.loop-left-preserved
 loop-left-preserved g c =
     let i = c.loop-left.invariant in
-    let n = c.write-next-next.ensures in
+    let n = c.write_next-next.ensures in
     let v = rw i.0 at n.value in
     let z = c.loop-left-test.true in
     let more = more_held _ _ _ i.1 i.2 (omega (arith, c.if-place-total.true, c.len-total.ensures.value)) _ _ v.rest in

@@ -9,8 +9,8 @@ use Rattle.amend.specs.Changes.{SlotMeans}
 use Rattle.amend.proofs.Slots.{after_more, after_none}
 use Rattle.amend.proofs.attributes.write_changed_attributes.Goals as goal
 
-pub write-changed-attribute-here-requires : goal.write-changed-attribute-here-requires
-write-changed-attribute-here-requires g c =
+pub write_changed_attribute-here-requires : goal.write_changed_attribute-here-requires
+write_changed_attribute-here-requires g c =
     let i = c.loop-attribute.invariant in
     record {
       fits = omega (arith, c.loop-attribute.auto.out, c.requires.fits);
@@ -25,7 +25,7 @@ loop-attribute-init g c = (refl, refl, λ σ m a r q. q)
 pub loop-attribute-preserved : goal.loop-attribute-preserved
 loop-attribute-preserved g c =
     let i = c.loop-attribute.invariant in
-    let h = c.write-changed-attribute-here.ensures in (
+    let h = c.write_changed_attribute-here.ensures in (
       h.same ∙ i.0,
       h.kept ∙ i.1,
       λ σ m. leads_on (i.2 σ m) (after_more _ _ σ c.args.table.now c.loop-attribute.attribute-index _ c.loop-attribute-test.true)

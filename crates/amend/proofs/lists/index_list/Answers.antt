@@ -8,10 +8,10 @@ use Rattle.form.proofs.Found.{list_held}
 use Rattle.amend.proofs.Indices.{indexed_here, indexed_lost, own_held, own_none, none_indexed}
 use Rattle.amend.proofs.lists.index_list.Goals as goal
 
-pub overflow-add-row : goal.overflow-add-row
-overflow-add-row g c =
+pub overflow_add-row : goal.overflow_add-row
+overflow_add-row g c =
     let (_, h) = list_held (meaning (g.S.Source.content c.args.source.now)) c.args.rows.now c.requires.sound c.args.attribute c.in-Some.row c.in-Some.ensures c.requires.listed in
-    omega (arith, h.within, c.len-total.ensures.value, c.len-total.type-inv)
+    omega (arith, h.within, c.len-total.ensures.value, c.len-total.type_inv)
 
 pub unreachable-requires : goal.unreachable-requires
 unreachable-requires g c =

@@ -9,35 +9,35 @@ use Rattle.amend.specs.Parts.{message_after}
 use Rattle.amend.proofs.Moves.{listing_moved, rowing_moved, list_moved, table_moved}
 use Rattle.amend.proofs.messages.write_changed_message.Goals as goal
 
-pub write-changed-attributes-attributes-requires : goal.write-changed-attributes-attributes-requires
-write-changed-attributes-attributes-requires g c =
+pub write_changed_attributes-attributes-requires : goal.write_changed_attributes-attributes-requires
+write_changed_attributes-attributes-requires g c =
     let (τ, m) = c.requires.meant in
     record {
       fits = c.requires.fits;
       sound = c.requires.sound;
-      simple = subst (λ t. All Plain t) (sym c.message-table-table.ensures) message_plain;
+      simple = subst (λ t. All Plain t) (sym c.message_table-table.ensures) message_plain;
       meant = (τ.slot, m.slot);
     }
 
-pub write-changed-recipients-recipients-requires : goal.write-changed-recipients-recipients-requires
-write-changed-recipients-recipients-requires g c =
-    let a = c.write-changed-attributes-attributes.ensures in
+pub write_changed_recipients-recipients-requires : goal.write_changed_recipients-recipients-requires
+write_changed_recipients-recipients-requires g c =
+    let a = c.write_changed_attributes-attributes.ensures in
     let (ρ, m) = c.requires.rowed in
     record {
-      fits = omega (arith, c.write-changed-attributes-attributes.auto.out, c.requires.fits);
+      fits = omega (arith, c.write_changed_attributes-attributes.auto.out, c.requires.fits);
       room = c.requires.room;
       sound = subst (λ t. All (Standing (meaning t)) c.args.rows.now) (sym a.same) c.requires.sound;
       meant = (ρ, rowing_moved a.kept c.args.rowing ρ m);
     }
 
-pub write-changed-properties-requires : goal.write-changed-properties-requires
-write-changed-properties-requires g c =
-    let a = c.write-changed-attributes-attributes.ensures in
-    let r = c.write-changed-recipients-recipients.ensures in
+pub write_changed_properties-requires : goal.write_changed_properties-requires
+write_changed_properties-requires g c =
+    let a = c.write_changed_attributes-attributes.ensures in
+    let r = c.write_changed_recipients-recipients.ensures in
     let (τ, m) = c.requires.meant in
     record {
-      fits = omega (arith, c.write-changed-attributes-attributes.auto.out, c.write-changed-recipients-recipients.auto.out, c.requires.fits);
-      room = omega (arith, c.write-changed-recipients-recipients.auto.lent, c.requires.room);
+      fits = omega (arith, c.write_changed_attributes-attributes.auto.out, c.write_changed_recipients-recipients.auto.out, c.requires.fits);
+      room = omega (arith, c.write_changed_recipients-recipients.auto.lent, c.requires.room);
       sound = subst (λ t. All (Standing (meaning t)) c.args.rows.now) (sym (r.same ∙ a.same)) c.requires.sound;
       listed = message_listed;
       meant = (τ.listing, listing_moved (r.kept ∙ a.kept) c.args.touch.listing τ.listing m.listing);
@@ -46,14 +46,14 @@ write-changed-properties-requires g c =
 pub returns : goal.returns
 unfolding message_after
 returns g c =
-    let a = c.write-changed-attributes-attributes.ensures in
-    let r = c.write-changed-recipients-recipients.ensures in
-    let p = c.write-changed-properties.ensures in
+    let a = c.write_changed_attributes-attributes.ensures in
+    let r = c.write_changed_recipients-recipients.ensures in
+    let p = c.write_changed_properties.ensures in
     record {
       same = p.same ∙ r.same ∙ a.same;
       kept = p.kept ∙ r.kept ∙ a.kept;
       value = λ τ m ρ n.
-          (rw c.message-table-table.ensures at (a.value τ.slot m.slot))
+          (rw c.message_table-table.ensures at (a.value τ.slot m.slot))
           ▷ (table_moved a.same c.args.rows.now ρ (r.value ρ (rowing_moved a.kept c.args.rowing ρ n))
           ▷ list_moved (r.same ∙ a.same) c.args.rows.now _ τ.listing (p.value τ.listing (listing_moved (r.kept ∙ a.kept) c.args.touch.listing τ.listing m.listing)));
     }

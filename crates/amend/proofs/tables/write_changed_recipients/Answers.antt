@@ -11,28 +11,28 @@ use Rattle.amend.proofs.tables.write_changed_recipients.Goals as goal
 
 pub returns-then-count-eq0 : goal.returns-then-count-eq0
 returns-then-count-eq0 g c =
-    let t = c.table-in-table.ensures in
+    let t = c.table_in-table.ensures in
     record {
       same = t.same;
       kept = refl;
       value = λ ρ m.
           let all = all_rows (meaning (g.T.Source.content c.args.input.now)) c.args.rowing ρ m (map indexed _) in
           let n = ap (count_after c.args.rowing) (t.value.counted ∙ sym (length-map _ indexed)) in
-          rw (table_empty _ (sym all.count ∙ (sym n ∙ (sym c.count-after-count.ensures ∙ c.if-count-eq0.true)))) pen_none;
+          rw (table_empty _ (sym all.count ∙ (sym n ∙ (sym c.count_after-count.ensures ∙ c.if-count-eq0.true)))) pen_none;
     }
 
-pub pen-close-requires : goal.pen-close-requires
-pen-close-requires g c =
-    let t = c.table-in-table.ensures in
+pub pen_close-requires : goal.pen_close-requires
+pen_close-requires g c =
+    let t = c.table_in-table.ensures in
     let (ρ, m) = c.requires.meant in
-    let rows = (rw t.same at c.write-turns-b.ensures.value) ρ m _ t.value.reads in
-    let w = c.pen-le32-a.ensures ▷ (rows ▷ c.write-added-end.ensures) in
-    (pen_closable c.args.here c.pen-open-body.ensures w, omega (arith, w.kept, c.requires.fits))
+    let rows = (rw t.same at c.write_turns-b.ensures.value) ρ m _ t.value.reads in
+    let w = c.pen_le32-a.ensures ▷ (rows ▷ c.write_added-end.ensures) in
+    (pen_closable c.args.here c.pen_open-body.ensures w, omega (arith, w.kept, c.requires.fits))
 
 pub returns : goal.returns
 returns g c =
-    let t = c.table-in-table.ensures in
-    let q = c.write-turns-b.ensures in
+    let t = c.table_in-table.ensures in
+    let q = c.write_turns-b.ensures in
     record {
       same = q.same ∙ t.same;
       kept = q.kept;
@@ -40,7 +40,7 @@ returns g c =
           let all = all_rows (meaning (g.T.Source.content c.args.input.now)) c.args.rowing ρ m (map indexed _) in
           let n = ap (count_after c.args.rowing) (t.value.counted ∙ sym (length-map _ indexed)) in
           let rows = (rw t.same at q.value) ρ m _ t.value.reads in
-          let w = c.pen-le32-a.ensures ▷ (rows ▷ c.write-added-end.ensures) in
-          let size = c.count-after-count.ensures ∙ (n ∙ all.count) in
-          rw (table_framed _ (λ z. c.if-count-eq0.false (size ∙ z)), ← table_of _ _ _ size all.bytes) (pen_frame c.pen-open-body.ensures w c.pen-close.ensures);
+          let w = c.pen_le32-a.ensures ▷ (rows ▷ c.write_added-end.ensures) in
+          let size = c.count_after-count.ensures ∙ (n ∙ all.count) in
+          rw (table_framed _ (λ z. c.if-count-eq0.false (size ∙ z)), ← table_of _ _ _ size all.bytes) (pen_frame c.pen_open-body.ensures w c.pen_close.ensures);
     }

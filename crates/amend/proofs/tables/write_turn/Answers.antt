@@ -4,28 +4,28 @@ use Rattle.amend.proofs.Indices.{indexed_here, indexed_lost, indexed_cut}
 use Rattle.amend.proofs.Turns.{turn_some, turn_writes, turn_leaves}
 use Rattle.amend.proofs.tables.write_turn.Goals as goal
 
-pub write-cut-requires : goal.write-cut-requires
-write-cut-requires g c =
+pub write_cut-requires : goal.write_cut-requires
+write_cut-requires g c =
     let xs = meaning (g.S.Source.content c.args.source.now) in
     let ys = meaning (g.T.Source.content c.args.input.now) in
     let h = c.in-Ok.ensures in
     let (ps, is, indexed, size) = indexed_here xs c.args.end c.args.place (length c.args.lent.now) c.requires.within c.requires.room c.rows.new.lent c.in-Ok.listed h.reads in
     let (t, m) = c.requires.meant in
     let (k, _, means) = turn_some ys c.args.turn c.in-Some.listing c.in-Some.is t m in
-    rw h.same (indexed_cut xs ys c.rows.new.lent c.in-Ok.listed.count ps indexed c.in-Some.listing k means c.cut-of-cut.result c.cut-of-cut.ensures).fits
+    rw h.same (indexed_cut xs ys c.rows.new.lent c.in-Ok.listed.count ps indexed c.in-Some.listing k means c.cut_of-cut.result c.cut_of-cut.ensures).fits
 
 pub returns-in-Some : goal.returns-in-Some
 returns-in-Some g c =
     let xs = meaning (g.S.Source.content c.args.source.now) in
     let ys = meaning (g.T.Source.content c.args.input.now) in
     let h = c.in-Ok.ensures in
-    let q = c.write-cut.ensures in
+    let q = c.write_cut.ensures in
     let (ps, is, indexed, size) = indexed_here xs c.args.end c.args.place (length c.args.lent.now) c.requires.within c.requires.room c.rows.new.lent c.in-Ok.listed h.reads in
     record {
       same = q.same ∙ h.same;
       kept = q.kept;
-      value = turn_writes xs ys c.args.turn c.args.place c.args.end ps c.in-Ok.listed.next is c.in-Some.listing c.in-Some.is c.args.out.now c.args.here c.write-cut.new.out c.write-cut.result
-          (λ k means. rw (← (indexed_cut xs ys c.rows.new.lent c.in-Ok.listed.count ps indexed c.in-Some.listing k means c.cut-of-cut.result c.cut-of-cut.ensures).form) (rw h.same at q.value));
+      value = turn_writes xs ys c.args.turn c.args.place c.args.end ps c.in-Ok.listed.next is c.in-Some.listing c.in-Some.is c.args.out.now c.args.here c.write_cut.new.out c.write_cut.result
+          (λ k means. rw (← (indexed_cut xs ys c.rows.new.lent c.in-Ok.listed.count ps indexed c.in-Some.listing k means c.cut_of-cut.result c.cut_of-cut.ensures).form) (rw h.same at q.value));
     }
 
 pub returns-in-None : goal.returns-in-None

@@ -5,8 +5,8 @@ use Rattle.amend.proofs.touches.write_touched.Goals as goal
 
 pub returns : goal.returns
 returns g c =
-    let n = c.write-first-next.ensures in
-    let b = c.write-touched-first.ensures in
+    let n = c.write_first-next.ensures in
+    let b = c.write_touched_first.ensures in
     record {
       same = b.same ∙ n.same;
       kept = b.kept;

@@ -9,28 +9,28 @@ use Rattle.amend.proofs.Moves.{slot_moved, listing_moved, list_moved}
 use Rattle.amend.proofs.Touching.{attachment_parted}
 use Rattle.amend.proofs.touches.write_touched_attachment.Goals as goal
 
-pub write-changed-attribute-rendering-requires : goal.write-changed-attribute-rendering-requires
-write-changed-attribute-rendering-requires g c =
+pub write_changed_attribute-rendering-requires : goal.write_changed_attribute-rendering-requires
+write_changed_attribute-rendering-requires g c =
     let (τ, m) = c.requires.meant in record { fits = c.requires.fits; sound = c.requires.sound; simple = rendering_plain; meant = (τ.slot, m.slot) }
 
-pub write-changed-attributes-attributes-requires : goal.write-changed-attributes-attributes-requires
-write-changed-attributes-attributes-requires g c =
-    let r = c.write-changed-attribute-rendering.ensures in
+pub write_changed_attributes-attributes-requires : goal.write_changed_attributes-attributes-requires
+write_changed_attributes-attributes-requires g c =
+    let r = c.write_changed_attribute-rendering.ensures in
     let (τ, m) = c.requires.meant in
     record {
-      fits = omega (arith, c.write-changed-attribute-rendering.auto.out, c.requires.fits);
+      fits = omega (arith, c.write_changed_attribute-rendering.auto.out, c.requires.fits);
       sound = subst (λ t. All (Standing (meaning t)) c.args.rows.now) (sym r.same) c.requires.sound;
-      simple = subst (λ t. All Plain t) (sym c.attachment-table-table.ensures) attachment_plain;
+      simple = subst (λ t. All Plain t) (sym c.attachment_table-table.ensures) attachment_plain;
       meant = (τ.slot, slot_moved r.kept c.args.touch.slot τ.slot m.slot);
     }
 
-pub write-changed-properties-requires : goal.write-changed-properties-requires
-write-changed-properties-requires g c =
-    let r = c.write-changed-attribute-rendering.ensures in
-    let a = c.write-changed-attributes-attributes.ensures in
+pub write_changed_properties-requires : goal.write_changed_properties-requires
+write_changed_properties-requires g c =
+    let r = c.write_changed_attribute-rendering.ensures in
+    let a = c.write_changed_attributes-attributes.ensures in
     let (τ, m) = c.requires.meant in
     record {
-      fits = omega (arith, c.write-changed-attribute-rendering.auto.out, c.write-changed-attributes-attributes.auto.out, c.requires.fits);
+      fits = omega (arith, c.write_changed_attribute-rendering.auto.out, c.write_changed_attributes-attributes.auto.out, c.requires.fits);
       room = c.requires.room;
       sound = subst (λ t. All (Standing (meaning t)) c.args.rows.now) (sym (a.same ∙ r.same)) c.requires.sound;
       listed = attachment_listed;
@@ -39,14 +39,14 @@ write-changed-properties-requires g c =
 
 pub returns : goal.returns
 returns g c =
-    let r = c.write-changed-attribute-rendering.ensures in
-    let a = c.write-changed-attributes-attributes.ensures in
-    let p = c.write-changed-properties.ensures in
+    let r = c.write_changed_attribute-rendering.ensures in
+    let a = c.write_changed_attributes-attributes.ensures in
+    let p = c.write_changed_properties.ensures in
     record {
       same = p.same ∙ a.same ∙ r.same;
       kept = p.kept ∙ a.kept ∙ r.kept;
       value = λ τ m. rw (attachment_parted _ _ τ)
           (r.value τ.slot m.slot
-          ▷ ((rw (r.same, c.attachment-table-table.ensures) at (a.value τ.slot (slot_moved r.kept c.args.touch.slot τ.slot m.slot)))
+          ▷ ((rw (r.same, c.attachment_table-table.ensures) at (a.value τ.slot (slot_moved r.kept c.args.touch.slot τ.slot m.slot)))
           ▷ list_moved (a.same ∙ r.same) c.args.rows.now _ τ.listing (p.value τ.listing (listing_moved (a.kept ∙ r.kept) c.args.touch.listing τ.listing m.listing))));
     }

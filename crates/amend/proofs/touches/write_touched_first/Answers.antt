@@ -14,14 +14,14 @@ returns-then-place-total g c = record {
   value = λ τ m. rw (none_touched _ _ _ c.requires.good τ (omega (arith, c.if-place-total.true, c.len-total.ensures.value))) pen_none;
 }
 
-pub write-attachments-requires : goal.write-attachments-requires
-write-attachments-requires g c =
+pub write_attachments-requires : goal.write_attachments-requires
+write_attachments-requires g c =
     let t = c.gather-target.ensures in
-    let w = c.write-touched-attachment-touched.ensures in
+    let w = c.write_touched_attachment-touched.ensures in
     let same = w.same ∙ t.same in
     record {
-      fits = omega (arith, c.write-touched-attachment-touched.auto.out, c.requires.fits);
-      room = omega (arith, c.write-touched-attachment-touched.auto.lent, c.requires.room);
+      fits = omega (arith, c.write_touched_attachment-touched.auto.out, c.requires.fits);
+      room = omega (arith, c.write_touched_attachment-touched.auto.lent, c.requires.room);
       good = subst (λ l. Readable (meaning l) c.gather-target.result.place c.gather-target.result.stage) (sym same) t.value.after;
       rendered = subst (λ l. Rendered (remaining (meaning l) c.gather-target.result.place c.gather-target.result.stage)) (sym same) (behind_rendered _ _ t.value.rest);
     }
@@ -30,8 +30,8 @@ pub returns : goal.returns
 returns g c =
     let z : c.gather-target.result.used - 0 ≡ c.gather-target.result.used = omega arith in
     let t = c.gather-target.ensures in
-    let w = c.write-touched-attachment-touched.ensures in
-    let a = c.write-attachments.ensures in
+    let w = c.write_touched_attachment-touched.ensures in
+    let a = c.write_attachments.ensures in
     let more = c.len-total.ensures.value in
     record {
       same = a.same ∙ w.same ∙ t.same;

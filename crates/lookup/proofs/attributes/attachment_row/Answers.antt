@@ -8,7 +8,7 @@ returns-in-Some g c =
     let z : c.in-Some.used - 0 ≡ c.in-Some.used = omega arith in
     let t = c.in-Some.ensures in
     let (h, e, _, s) = t.value in
-    let u = rw z at c.row-under.ensures in
+    let u = rw z at c.row_under.ensures in
     record {
       same = t.same;
       value = λ p. says_held _ _ _ _ h e s c.args.attribute p _ u;

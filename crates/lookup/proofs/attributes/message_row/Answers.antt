@@ -4,9 +4,9 @@ use Rattle.lookup.proofs.attributes.message_row.Goals as goal
 
 pub returns : goal.returns
 returns g c =
-    let z : c.message-rows-used.result - 0 ≡ c.message-rows-used.result = omega arith in
-    let t = c.message-rows-used.ensures in
-    let u = rw z at c.row-under.ensures in
+    let z : c.message_rows-used.result - 0 ≡ c.message_rows-used.result = omega arith in
+    let t = c.message_rows-used.ensures in
+    let u = rw z at c.row_under.ensures in
     record {
       same = t.same;
       value = λ p. says_contents _ _ _ _ t.value.own c.args.attribute p _ u;

@@ -6,7 +6,7 @@ use Rattle.lookup.proofs.attributes.page_number.Goals as goal
 pub returns-in-Ok : goal.returns-in-Ok
 returns-in-Ok g c =
     let q = c.in-Ok.ensures in
-    record { same = q.same; value = c.unwrap-or.ensures ∙ page_found _ c.args.rows.now c.requires.sound _ c.in-Some.ensures _ q.value }
+    record { same = q.same; value = c.unwrap_or.ensures ∙ page_found _ c.args.rows.now c.requires.sound _ c.in-Some.ensures _ q.value }
 
 pub returns-in-Err : goal.returns-in-Err
 returns-in-Err g c =

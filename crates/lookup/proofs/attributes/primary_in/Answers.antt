@@ -3,7 +3,7 @@ use Rattle.lookup.proofs.attributes.primary_in.Goals as goal
 
 pub returns : goal.returns
 returns g c =
-    let z : c.message-rows-used.result - 0 ≡ c.message-rows-used.result = omega arith in
-    let t = c.message-rows-used.ensures in
-    let k = c.page-number.ensures in
+    let z : c.message_rows-used.result - 0 ≡ c.message_rows-used.result = omega arith in
+    let t = c.message_rows-used.ensures in
+    let k = c.page_number.ensures in
     record { same = k.same ∙ t.same; value = (rw (t.same, z) at k.value) ∙ t.value.page }

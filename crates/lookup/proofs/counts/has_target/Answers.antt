@@ -7,7 +7,7 @@ use Rattle.lookup.proofs.counts.has_target.Goals as goal
 
 pub returns-in-Row : goal.returns-in-Row
 returns-in-Row g c =
-    let k = c.count-rows.ensures in
+    let k = c.count_rows.ensures in
     let m = message_in (meaning (g.S.Source.content c.args.source.now)) in
     record {
       same = k.same;

@@ -4,7 +4,7 @@ use Rattle.lookup.proofs.counts.rows_counted.Goals as goal
 
 pub returns : goal.returns
 returns g c =
-    let z : c.message-rows-used.result - 0 ≡ c.message-rows-used.result = omega arith in
-    let t = c.message-rows-used.ensures in
+    let z : c.message_rows-used.result - 0 ≡ c.message_rows-used.result = omega arith in
+    let t = c.message_rows-used.ensures in
     let k = c.table_size.ensures in
     record { same = k.same ∙ t.same; value = (rw (t.same, z) at k.value) ∙ sym (length-map _ _) ∙ ap length t.value.table }

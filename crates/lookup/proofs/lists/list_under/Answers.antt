@@ -8,10 +8,10 @@ use Rattle.lookup.proofs.Saying.{list_told, list_lost}
 use Rattle.lookup.proofs.Listing.{carrying_none, carrying_list, list_refused}
 use Rattle.lookup.proofs.lists.list_under.Goals as goal
 
-pub overflow-add-row : goal.overflow-add-row
-overflow-add-row g c =
+pub overflow_add-row : goal.overflow_add-row
+overflow_add-row g c =
     let (_, h) = list_held (meaning (g.S.Source.content c.args.source.now)) c.args.rows.now c.requires.sound c.args.attribute c.in-Some.row c.in-Some.ensures c.requires.listed in
-    omega (arith, h.within, c.len-total.ensures.value, c.len-total.type-inv)
+    omega (arith, h.within, c.len-total.ensures.value, c.len-total.type_inv)
 
 pub returns-in-Ok : goal.returns-in-Ok
 returns-in-Ok g c =

@@ -6,5 +6,5 @@ use Rattle.lookup.proofs.lists.properties.Goals as goal
 
 pub returns-in-Message : goal.returns-in-Message
 returns-in-Message g c =
-    let k = c.message-list.ensures in
+    let k = c.message_list.ensures in
     record { same = k.same; value = (_, ap (holding (message_in (meaning (g.S.Source.content c.args.source.now)))) c.in-Message.is, k.value) }

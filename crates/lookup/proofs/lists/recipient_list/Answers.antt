@@ -4,7 +4,7 @@ use Rattle.lookup.proofs.lists.recipient_list.Goals as goal
 
 pub returns : goal.returns
 returns g c =
-    let z : c.message-rows-used.result - 0 ≡ c.message-rows-used.result = omega arith in
-    let t = c.message-rows-used.ensures in
-    let k = c.row-list.ensures in
+    let z : c.message_rows-used.result - 0 ≡ c.message_rows-used.result = omega arith in
+    let t = c.message_rows-used.ensures in
+    let k = c.row_list.ensures in
     record { same = k.same ∙ t.same; value = row_carried _ _ _ _ t.value.table c.args.number _ (rw (t.same, z) at k.value) }

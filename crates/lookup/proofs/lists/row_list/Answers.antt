@@ -31,28 +31,28 @@ returns-then-number-count g c =
     let n : length ts ≤ c.args.number = omega (arith, (asked_got _ _ _ _ _ k.value).1, h.counted, c.if-number-count.true) in
     record { same = k.same; value = ap (λ l. nth l c.args.number) (table_told xs c.args.rows.now ts h.told) ∙ nth_past ts c.args.number n }
 
-pub overflow-add-end : goal.overflow-add-end
-overflow-add-end g c =
+pub overflow_add-end : goal.overflow_add-end
+overflow_add-end g c =
     let (_, h) = table_held (meaning (g.S.Source.content c.args.source.now)) c.args.rows.now c.requires.sound (attribute recipients_id 1 Recipients) c.in-Some.row c.in-Some.ensures recipients_known refl in
     omega (arith, h.within, c.len-total.ensures.value, c.len-total.ensures.bound)
 
-pub overflow-add-row : goal.overflow-add-row
-overflow-add-row g c =
+pub overflow_add-row : goal.overflow_add-row
+overflow_add-row g c =
     let (_, h) = table_held (meaning (g.S.Source.content c.args.source.now)) c.args.rows.now c.requires.sound (attribute recipients_id 1 Recipients) c.in-Some.row c.in-Some.ensures recipients_known refl in
     omega (arith, h.room, c.len-total.ensures.value, c.len-total.ensures.bound)
 
-pub list-start-start-requires : goal.list-start-start-requires
-list-start-start-requires g c =
+pub list_start-start-requires : goal.list_start-start-requires
+list_start-start-requires g c =
     let (_, h) = table_held (meaning (g.S.Source.content c.args.source.now)) c.args.rows.now c.requires.sound (attribute recipients_id 1 Recipients) c.in-Some.row c.in-Some.ensures recipients_known refl in
     rw c.in-Ok.ensures.same h.within
 
-pub returns-in-Ok-index-list : goal.returns-in-Ok-index-list
-returns-in-Ok-index-list g c =
+pub returns-in-Ok-index_list : goal.returns-in-Ok-index_list
+returns-in-Ok-index_list g c =
     let xs = meaning (g.S.Source.content c.args.source.now) in
     let (ts, h) = table_held xs c.args.rows.now c.requires.sound (attribute recipients_id 1 Recipients) c.in-Some.row c.in-Some.ensures recipients_known refl in
     let k = c.in-Ok.ensures in
-    let s = c.list-start-start.ensures in
-    let q = c.in-Ok-index-list.ensures in
+    let s = c.list_start-start.ensures in
+    let q = c.in-Ok-index_list.ensures in
     let n : c.args.number < length ts = omega (arith, (asked_got _ _ _ _ _ k.value).1, h.counted, c.if-number-count.false) in
     let (a, is, there) = list_there xs _ _ ts h.reads c.args.number _ n (rw k.same at s.value) in
     record {
@@ -64,13 +64,13 @@ returns-in-Ok-index-list g c =
       );
     }
 
-pub returns-in-Err-index-list : goal.returns-in-Err-index-list
-returns-in-Err-index-list g c =
+pub returns-in-Err-index_list : goal.returns-in-Err-index_list
+returns-in-Err-index_list g c =
     let xs = meaning (g.S.Source.content c.args.source.now) in
     let (ts, h) = table_held xs c.args.rows.now c.requires.sound (attribute recipients_id 1 Recipients) c.in-Some.row c.in-Some.ensures recipients_known refl in
     let k = c.in-Ok.ensures in
-    let s = c.list-start-start.ensures in
-    let q = c.in-Err-index-list.ensures in
+    let s = c.list_start-start.ensures in
+    let q = c.in-Err-index_list.ensures in
     let n : c.args.number < length ts = omega (arith, (asked_got _ _ _ _ _ k.value).1, h.counted, c.if-number-count.false) in
     let (a, is, _) = list_there xs _ _ ts h.reads c.args.number _ n (rw k.same at s.value) in
     record { same = q.same ∙ s.same ∙ k.same; value = absurd (list_refused xs _ _ _ h.within c.requires.room a is _ (rw (s.same ∙ k.same) at q.reads)) }

@@ -7,8 +7,8 @@ loop-count-init g c =
     let t = c.gather-target.ensures in
     (refl, rw t.same (passed_none _ _ _ _ c.requires.good t.value t.written), omega arith, search rules)
 
-pub overflow-add-count : goal.overflow-add-count
-overflow-add-count g c = omega (arith, c.loop-count-test.true, c.ranges.most)
+pub overflow_add-count : goal.overflow_add-count
+overflow_add-count g c = omega (arith, c.loop-count-test.true, c.ranges.most)
 
 pub loop-count-preserved : goal.loop-count-preserved
 loop-count-preserved g c =

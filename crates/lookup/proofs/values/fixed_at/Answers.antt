@@ -43,13 +43,13 @@ returns-then-number-count g c =
           nth_past a.what c.args.number (omega (arith, (asked_got _ _ _ _ _ q.value).1, c.if-number-count.true));
     }
 
-pub overflow-add-place : goal.overflow-add-place
-overflow-add-place g c =
+pub overflow_add-place : goal.overflow_add-place
+overflow_add-place g c =
     let q = c.in-Ok.ensures in
     omega (arith, (asked_got _ _ _ _ _ q.value).0, c.len-total.ensures.value, c.len-total.ensures.bound)
 
-pub overflow-add-place-in-Ok : goal.overflow-add-place-in-Ok
-overflow-add-place-in-Ok g c =
+pub overflow_add-place-in-Ok : goal.overflow_add-place-in-Ok
+overflow_add-place-in-Ok g c =
     let q = c.in-Ok.ensures in
     let w : c.padded.result ≤ 512 = omega (arith, c.padded.ensures, c.from-size.ensures, c.ranges.width) in
     let n : c.args.number ≤ 4294967296 = omega (arith, c.if-number-count.false) in

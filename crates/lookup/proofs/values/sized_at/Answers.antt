@@ -27,28 +27,28 @@ returns-then-number-count g c =
           nth_past a.what c.args.number (omega (arith, (asked_got _ _ _ _ _ q.value).1, c.if-number-count.true));
     }
 
-pub overflow-add-place : goal.overflow-add-place
-overflow-add-place g c =
+pub overflow_add-place : goal.overflow_add-place
+overflow_add-place g c =
     let q = c.in-Ok.ensures in
     let t : c.len-total.result ≡ length (meaning (g.S.Source.content c.args.source.now)) = rw q.same at c.len-total.ensures.value in
     omega (arith, (asked_got _ _ _ _ _ q.value).0, c.len-total.ensures.bound)
 
-pub overflow-add-result : goal.overflow-add-result
-overflow-add-result g c =
+pub overflow_add-result : goal.overflow_add-result
+overflow_add-result g c =
     let q = c.in-Ok.ensures in
-    let w = c.in-Ok-u32-at.ensures in
-    let s = c.value-start-start.ensures in
+    let w = c.in-Ok-u32_at.ensures in
+    let s = c.value_start-start.ensures in
     let t : c.len-total.result ≡ length (meaning (g.S.Source.content c.args.source.now)) = rw q.same at c.len-total.ensures.value in
     omega (arith, (asked_got _ _ _ _ _ (rw (s.same ∙ q.same) at w.value)).0, c.len-total.ensures.bound)
 
-pub returns-in-Ok-u32-at : goal.returns-in-Ok-u32-at
-returns-in-Ok-u32-at g c =
+pub returns-in-Ok-u32_at : goal.returns-in-Ok-u32_at
+returns-in-Ok-u32_at g c =
     let xs = meaning (g.S.Source.content c.args.source.now) in
     let q = c.in-Ok.ensures in
-    let s = c.value-start-start.ensures in
-    let w = c.in-Ok-u32-at.ensures in
-    let here = c.value-start-start.result in
-    let z : c.in-Ok-u32-at.size ≡ val (part xs here 4) = (asked_got _ _ _ _ _ (rw (s.same ∙ q.same) at w.value)).1 in
+    let s = c.value_start-start.ensures in
+    let w = c.in-Ok-u32_at.ensures in
+    let here = c.value_start-start.result in
+    let z : c.in-Ok-u32_at.size ≡ val (part xs here 4) = (asked_got _ _ _ _ _ (rw (s.same ∙ q.same) at w.value)).1 in
     record {
       same = w.same ∙ s.same ∙ q.same;
       value = λ end start k several a l e.
@@ -57,13 +57,13 @@ returns-in-Ok-u32-at g c =
           (omega (arith, u), v ∙ ap (λ n. Some (value k (part xs (here + 4) n))) (sym z));
     }
 
-pub returns-in-Err-u32-at : goal.returns-in-Err-u32-at
-returns-in-Err-u32-at g c =
+pub returns-in-Err-u32_at : goal.returns-in-Err-u32_at
+returns-in-Err-u32_at g c =
     let xs = meaning (g.S.Source.content c.args.source.now) in
     let q = c.in-Ok.ensures in
-    let s = c.value-start-start.ensures in
-    let w = c.in-Err-u32-at.ensures in
-    let here = c.value-start-start.result in
+    let s = c.value_start-start.ensures in
+    let w = c.in-Err-u32_at.ensures in
+    let here = c.value_start-start.result in
     record {
       same = w.same ∙ s.same ∙ q.same;
       value = λ end start k several a l e.

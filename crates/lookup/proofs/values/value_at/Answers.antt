@@ -16,14 +16,14 @@ pub returns-in-Fixed : goal.returns-in-Fixed
 returns-in-Fixed g c =
     let xs = meaning (g.S.Source.content c.args.source.now) in
     let s = c.in-Some.shape in
-    let q = c.fixed-at.ensures in
+    let q = c.fixed_at.ensures in
     record {
       same = q.same;
       value = λ end p l h.
           let (start, a, reads, vs, t) = said_as xs end c.args.row.now p h s c.in-Some.ensures in (
             s,
             t,
-            subst (λ ws. ValueStands xs s.kind (nth ws c.args.number) c.fixed-at.result) (sym vs)
+            subst (λ ws. ValueStands xs s.kind (nth ws c.args.number) c.fixed_at.result) (sym vs)
                 (q.value end start s.kind a l (sym (shaped_fixed xs end start l s c.in-Fixed.width _ (ap width c.in-Fixed.is)) ∙ reads)),
           );
     }
@@ -32,30 +32,30 @@ pub returns-in-YesNo : goal.returns-in-YesNo
 returns-in-YesNo g c =
     let xs = meaning (g.S.Source.content c.args.source.now) in
     let s = c.in-Some.shape in
-    let q = c.fixed-at-in-YesNo.ensures in
+    let q = c.fixed_at-in-YesNo.ensures in
     record {
       same = q.same;
       value = λ end p l h.
           let (start, a, reads, vs, t) = said_as xs end c.args.row.now p h s c.in-Some.ensures in (
             s,
             t,
-            subst (λ ws. ValueStands xs s.kind (nth ws c.args.number) c.fixed-at-in-YesNo.result) (sym vs)
+            subst (λ ws. ValueStands xs s.kind (nth ws c.args.number) c.fixed_at-in-YesNo.result) (sym vs)
                 (q.value end start s.kind a l (sym (shaped_fixed xs end start l s 2 _ (ap width c.in-YesNo.is)) ∙ reads)),
           );
     }
 
-pub returns-in-default : goal.returns-in-default
-returns-in-default g c =
+pub returns-in_default : goal.returns-in_default
+returns-in_default g c =
     let xs = meaning (g.S.Source.content c.args.source.now) in
     let s = c.in-Some.shape in
-    let q = c.sized-at.ensures in
+    let q = c.sized_at.ensures in
     record {
       same = q.same;
       value = λ end p l h.
           let (start, a, reads, vs, t) = said_as xs end c.args.row.now p h s c.in-Some.ensures in (
             s,
             t,
-            subst (λ ws. ValueStands xs s.kind (nth ws c.args.number) c.sized-at.result) (sym vs)
-                (q.value end start s.kind s.several a l (sym (shaped_sized xs end start l s _ (no_width s.kind c.in-default.not-Fixed c.in-default.not-YesNo)) ∙ reads)),
+            subst (λ ws. ValueStands xs s.kind (nth ws c.args.number) c.sized_at.result) (sym vs)
+                (q.value end start s.kind s.several a l (sym (shaped_sized xs end start l s _ (no_width s.kind c.in_default.not-Fixed c.in_default.not-YesNo)) ∙ reads)),
           );
     }

@@ -4,13 +4,13 @@ use Rattle.property.specs.Fields.{padded}
 use Rattle.listform.specs.Forms.{number_there}
 use Rattle.lookup.proofs.values.value_end.Goals as goal
 
-pub overflow-add-result : goal.overflow-add-result
-overflow-add-result g c =
+pub overflow_add-result : goal.overflow_add-result
+overflow_add-result g c =
     let q = c.in-Ok.ensures in
     omega (arith, (asked_got _ _ _ _ _ q.value).0, c.len-total.ensures.value, c.len-total.ensures.bound)
 
-pub overflow-add-result-in-Ok : goal.overflow-add-result-in-Ok
-overflow-add-result-in-Ok g c =
+pub overflow_add-result-in-Ok : goal.overflow_add-result-in-Ok
+overflow_add-result-in-Ok g c =
     let q = c.in-Ok.ensures in
     omega (arith, (asked_got _ _ _ _ _ q.value).0, c.len-total.ensures.value, c.len-total.ensures.bound, c.padded.ensures)
 
