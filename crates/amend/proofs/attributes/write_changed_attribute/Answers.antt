@@ -4,7 +4,7 @@ use Rattle.pen.proofs.Pens.{pen_none}
 use Rattle.amend.specs.declared.changes.Slot.TheVariants.{Kept}
 use Rattle.amend.proofs.Slots.{put_admitted, put_after, dropped_after, beside_put, beside_dropped, all_kept}
 use Rattle.amend.proofs.attributes.write_changed_attribute.Goals as goal
-use Rattle.amend.proofs.attributes.write_changed_attribute.Goals.{in_default-via-in-Put+else-put-attribute, in_default-via-in-Dropped+else-id-attribute, in_default-via-in-Kept·}
+use Rattle.amend.proofs.attributes.write_changed_attribute.Goals.{in_default-via-in-Put+else-put-attribute, in_default-via-in-Dropped+else-id-attribute, in_default-via-in_default}
 
 pub write_input-requires : goal.write_input-requires
 write_input-requires g c =
@@ -40,7 +40,7 @@ returns-in_default g c =
       value = λ σ m. elim c.in_default.branch [
         | in_default-via-in-Put+else-put-attribute w ↦ rw (beside_put ys a c.requires.simple xs rows _ σ (rw w.in-Put.is at m) w.if-put-attribute.false) c.write_attribute.ensures.value
         | in_default-via-in-Dropped+else-id-attribute w ↦ rw (beside_dropped ys a c.requires.simple xs rows _ σ (rw w.in-Dropped.is at m) w.if-id-attribute.false) c.write_attribute.ensures.value
-        | in_default-via-in-Kept· w ↦
-            let k : c.args.slot ≡ Kept = cc in rw (all_kept ys a c.requires.simple xs rows σ (rw k at m)) c.write_attribute.ensures.value
+        | in_default-via-in_default w ↦
+            let k : c.args.slot ≡ Kept = w.in_default.is in rw (all_kept ys a c.requires.simple xs rows σ (rw k at m)) c.write_attribute.ensures.value
       ];
     }

@@ -32,7 +32,7 @@ write_cut-end-requires g c =
 pub pen_close-requires : goal.pen_close-requires
 pen_close-requires g c =
     let w = c.write_cut-end.ensures.value in
-    (pen_closable c.args.here c.pen_open-body.ensures w, omega (arith, w.kept, c.requires.fits))
+    record { closable = pen_closable c.args.here c.pen_open-body.ensures w; out_len_bound = omega (arith, w.kept, c.requires.fits) }
 
 pub returns : goal.returns
 returns g c =

@@ -27,7 +27,7 @@ pen_close-requires g c =
     let (ρ, m) = c.requires.meant in
     let rows = (rw t.same at c.write_turns-b.ensures.value) ρ m _ t.value.reads in
     let w = c.pen_le32-a.ensures ▷ (rows ▷ c.write_added-end.ensures) in
-    (pen_closable c.args.here c.pen_open-body.ensures w, omega (arith, w.kept, c.requires.fits))
+    record { closable = pen_closable c.args.here c.pen_open-body.ensures w; out_len_bound = omega (arith, w.kept, c.requires.fits) }
 
 pub returns : goal.returns
 returns g c =

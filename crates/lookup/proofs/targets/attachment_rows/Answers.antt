@@ -15,7 +15,10 @@ returns-then-passed-total g c =
 pub gather-target-requires : goal.gather-target-requires
 gather-target-requires g c =
     let w = c.pass-passed.ensures in
-    (subst (λ t. Readable (meaning t) c.pass-passed.result.place c.pass-passed.result.stage) (sym w.same) w.value.good, c.requires.room)
+    record {
+      readable = subst (λ t. Readable (meaning t) c.pass-passed.result.place c.pass-passed.result.stage) (sym w.same) w.value.good;
+      attributes_in_bounds = c.requires.room;
+    }
 
 pub returns : goal.returns
 returns g c =
