@@ -1,6 +1,6 @@
 -- The parts of what is written are the written form of the message after the change.
 use Rattle.std.proofs.Common.{◌≡◌, ℕ, List, [], ◌∷◌, ◌++◌, map, Option, sym, refl, ap, ◌∙◌}
-use Rattle.std.specs.List.{flat_map, AllByRecursion as All}
+use Rattle.std.specs.List.{flat_map, AllByRecursion}
 use Rattle.attribute.specs.Table.{attribute_of, message_attributes, message_properties_id, version_id, code_page_id}
 use Rattle.frame.specs.Frames.{signature}
 use Rattle.frame.specs.declared.stages.Stage.{Stage}
@@ -30,7 +30,7 @@ own_after τ ρ es =
     attribute_entries message_attributes (slot_after τ.slot (holding_of es).attributes)
     ++ (table_entries (rows_after ρ (rows_of es)) ++ list_entries message_properties_id (list_after τ.listing (properties_of es)))
 
-message_touched : (xs : List ℕ) (es : List Entry) (rs : List AttributeRow) → Gathered xs es rs → All Apt es → All (λ e. level_of e.id ≡ 1) es
+message_touched : (xs : List ℕ) (es : List Entry) (rs : List AttributeRow) → Gathered xs es rs → AllByRecursion Apt es → AllByRecursion (λ e. level_of e.id ≡ 1) es
     → (τ : spec.Touch) (ρ : spec.Rowing) → message_after xs rs τ ρ ≡ flat_map write_entry (own_after τ ρ es)
 unfolding message_after attributes_after recipients_after properties_after rows_of properties_of attribute_of
 message_touched xs es rs g apt level τ ρ =

@@ -1,6 +1,6 @@
 -- The frames of a target that is touched.
 use Rattle.std.proofs.Common.{◌≡◌, ℕ, ◌<◌, ◌≤◌, cond, eqb, List, [], ◌∷◌, ◌++◌, length, Some, None, Option, refl, ap, ◌∙◌}
-use Rattle.std.specs.List.{flat_map, AllByRecursion as All}
+use Rattle.std.specs.List.{flat_map, AllByRecursion}
 use Rattle.std.proofs.ByRecursion.{All-weaker}
 use Rattle.attribute.specs.Table.{attribute_of, rendering_id, rendering_attribute, attachment_attributes, attachment_properties_id}
 use Rattle.attribute.specs.declared.Attribute.{Attribute}
@@ -37,13 +37,13 @@ slot_same (spec.put j c) f h i e = ap (cond (eqb j i) (Some c)) e
 slot_same (spec.dropped j) f h i e = ap (cond (eqb j i) None) e
 
 -- Rows that were gathered of a target hold what its entries hold.
-module _ (xs : List ℕ) (es : List Entry) (rs : List AttributeRow) (g : Gathered xs es rs) (apt : All Apt es) where
-  pub slots_same : (σ : spec.Slot) (all : List Attribute) → All Plain all
+module _ (xs : List ℕ) (es : List Entry) (rs : List AttributeRow) (g : Gathered xs es rs) (apt : AllByRecursion Apt es) where
+  pub slots_same : (σ : spec.Slot) (all : List Attribute) → AllByRecursion Plain all
       → attribute_entries all (slot_after σ (contents_in xs rs)) ≡ attribute_entries all (slot_after σ (holding_of es).attributes)
   slots_same σ all p =
       attributes_same all _ _ (All-weaker Plain _ (λ a h. slot_same σ (contents_in xs rs) (holding_of es).attributes a.id (contents_same xs es rs g apt a h)) all p)
 
-  pub attachment_touched : All (λ e. level_of e.id ≡ 2) es → (τ : spec.Touch)
+  pub attachment_touched : AllByRecursion (λ e. level_of e.id ≡ 2) es → (τ : spec.Touch)
       → attachment_after xs rs τ ≡ flat_map write_entry (attachment_entries (touched τ (holding_of es)))
   unfolding attachment_after properties_of attribute_of
   attachment_touched level τ =
@@ -65,7 +65,7 @@ module _ (xs : List ℕ) (p : ℕ) (s : Stage) (g : Readable xs p s) (τ : spec.
         let (e, es, m, d) = head xs p s g r h in
         let level = own_levels xs p s e es g m in
         let two : level_of e.id ≡ 2 = ap level_of d ∙ rendering_level in
-        let l : All (λ x. level_of x.id ≡ 2) (own_part (e ∷ es)) = rw two at level in
+        let l : AllByRecursion (λ x. level_of x.id ≡ 2) (own_part (e ∷ es)) = rw two at level in
         attachment_touched xs (own_part (remaining xs p s)) rows k.gathered (own_all Apt _ (all_apt xs _ p s g refl)) (rw m l) τ
 
     pub first_parted : (rows : List AttributeRow) (q : ℕ) (t : Stage) → Taken xs p s rows q t

@@ -1,6 +1,6 @@
 // The attributes of a target of which one is changed, written by rising id.
 ghost use Rattle.std.specs.Prelude.{◌≡◌, ◌^◌, ◌<◌, true, length};
-ghost use Rattle.std.specs.List.{AllByRecursion as All};
+ghost use Rattle.std.specs.List.{AllByRecursion};
 ghost use Rattle.source.specs.Content.{meaning};
 ghost use Rattle.pen.specs.Pen.{Penned};
 ghost use Rattle.contents.specs.Contents.{admits, normal_data};
@@ -51,7 +51,7 @@ pub fn write_changed_attribute<S: Source, T: Source>(
     here: Option<usize>,
 ) -> Option<usize>
     requires fits { length out.old < 2 ^ 32 }
-    requires sound { All (Standing (meaning (S.Source.content source.old))) rows.now }
+    requires sound { AllByRecursion (Standing (meaning (S.Source.content source.old))) rows.now }
     requires simple { Plain attribute }
     requires meant { (σ : spec.Slot) × SlotMeans (meaning (T.Source.content input.old)) slot σ }
     ensures same { S.Source.content source.new ≡ S.Source.content source.old }
@@ -79,8 +79,8 @@ pub fn write_changed_attributes<S: Source, T: Source>(
     start: Option<usize>,
 ) -> Option<usize>
     requires fits { length out.old < 2 ^ 32 }
-    requires sound { All (Standing (meaning (S.Source.content source.old))) rows.now }
-    requires simple { All Plain table.now }
+    requires sound { AllByRecursion (Standing (meaning (S.Source.content source.old))) rows.now }
+    requires simple { AllByRecursion Plain table.now }
     requires meant { (σ : spec.Slot) × SlotMeans (meaning (T.Source.content input.old)) slot σ }
     ensures same { S.Source.content source.new ≡ S.Source.content source.old }
     ensures kept { T.Source.content input.new ≡ T.Source.content input.old }

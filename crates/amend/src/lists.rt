@@ -1,6 +1,6 @@
 // The frame of a list of properties with one of them put or dropped; an empty list has none.
 ghost use Rattle.std.specs.Prelude.{◌≡◌, ◌^◌, ◌<◌, ◌≤◌, [], length, take};
-ghost use Rattle.std.specs.List.{flat_map, AllByRecursion as All};
+ghost use Rattle.std.specs.List.{flat_map, AllByRecursion};
 ghost use Rattle.source.specs.Content.{meaning};
 ghost use Rattle.pen.specs.Pen.{Penned};
 ghost use Rattle.property.specs.Lists.{list_limit, indexed};
@@ -29,7 +29,7 @@ fn index_list<S: Source>(
     lent: &mut [PropertyRow],
 ) -> usize
     requires room { list_limit ≤ length lent.old }
-    requires sound { All (Standing (meaning (S.Source.content source.old))) rows.now }
+    requires sound { AllByRecursion (Standing (meaning (S.Source.content source.old))) rows.now }
     requires listed { Natured properties attribute }
     ensures same { S.Source.content source.new ≡ S.Source.content source.old }
     ensures within { result ≤ length lent.new }
@@ -59,7 +59,7 @@ pub fn write_changed_properties<S: Source, T: Source>(
 ) -> Option<usize>
     requires fits { length out.old < 2 ^ 32 }
     requires room { list_limit ≤ length lent.old }
-    requires sound { All (Standing (meaning (S.Source.content source.old))) rows.now }
+    requires sound { AllByRecursion (Standing (meaning (S.Source.content source.old))) rows.now }
     requires listed { Natured properties attribute }
     requires meant { (l : spec.Listing) × ListingMeans (meaning (T.Source.content input.old)) listing l }
     ensures same { S.Source.content source.new ≡ S.Source.content source.old }

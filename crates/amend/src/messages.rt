@@ -1,6 +1,6 @@
 // A message's own frames, of which one may be changed.
 ghost use Rattle.std.specs.Prelude.{◌≡◌, ◌^◌, ◌<◌, ◌≤◌, length};
-ghost use Rattle.std.specs.List.{AllByRecursion as All};
+ghost use Rattle.std.specs.List.{AllByRecursion};
 ghost use Rattle.source.specs.Content.{meaning};
 ghost use Rattle.pen.specs.Pen.{Penned};
 ghost use Rattle.property.specs.Lists.{list_limit};
@@ -30,7 +30,7 @@ pub fn write_changed_message<S: Source, T: Source>(
 ) -> Option<usize>
     requires fits { length out.old < 2 ^ 32 }
     requires room { list_limit ≤ length lent.old }
-    requires sound { All (Standing (meaning (S.Source.content source.old))) rows.now }
+    requires sound { AllByRecursion (Standing (meaning (S.Source.content source.old))) rows.now }
     requires meant { (τ : spec.Touch) × TouchMeans (meaning (T.Source.content input.old)) touch τ }
     requires rowed { (ρ : spec.Rowing) × RowingMeans (meaning (T.Source.content input.old)) rowing ρ }
     ensures same { S.Source.content source.new ≡ S.Source.content source.old }

@@ -1,6 +1,6 @@
 // The code page of a message, or a new one.
 ghost use Rattle.std.specs.Prelude.{◌≡◌, ℕ, ◌^◌, ◌<◌, length, Some, Option};
-ghost use Rattle.std.specs.List.{AllByRecursion as All};
+ghost use Rattle.std.specs.List.{AllByRecursion};
 ghost use Rattle.source.specs.Content.{meaning};
 ghost use Rattle.attribute.specs.Table.{code_page_id};
 ghost use Rattle.pen.specs.Pen.{Penned};
@@ -25,7 +25,7 @@ pub fn write_changed_page<S: Source, T: Source>(
     here: Option<usize>,
 ) -> Option<usize>
     requires fits { length out.old < 2 ^ 32 }
-    requires sound { All (Standing (meaning (S.Source.content source.old))) rows.now }
+    requires sound { AllByRecursion (Standing (meaning (S.Source.content source.old))) rows.now }
     requires meant { (o : Option ℕ) × PageMeans (meaning (T.Source.content input.old)) page o }
     ensures same { S.Source.content source.new ≡ S.Source.content source.old }
     ensures kept { T.Source.content input.new ≡ T.Source.content input.old }

@@ -1,6 +1,6 @@
 // The frame of the table of recipients with one row of it changed, added or left out; an empty table has none.
 ghost use Rattle.std.specs.Prelude.{◌≡◌, ◌^◌, ◌<◌, ◌≤◌, [], map, length, Option};
-ghost use Rattle.std.specs.List.{flat_map, AllByRecursion as All};
+ghost use Rattle.std.specs.List.{flat_map, AllByRecursion};
 ghost use Rattle.source.specs.Content.{meaning};
 ghost use Rattle.pen.specs.Pen.{Penned};
 ghost use Rattle.attribute.specs.Table.{recipients_id};
@@ -131,7 +131,7 @@ fn write_turns<S: Source, T: Source>(
 
 // The table that stands under the recipients' id; one without rows where there is no frame.
 fn table_in<S: Source>(source: &mut S, rows: &[AttributeRow]) -> Tabled
-    requires { All (Standing (meaning (S.Source.content source.old))) rows.now }
+    requires { AllByRecursion (Standing (meaning (S.Source.content source.old))) rows.now }
     ensures same { S.Source.content source.new ≡ S.Source.content source.old }
     ensures value { TableRead (meaning (S.Source.content source.old)) result
         (or_default (told_in as_table recipients_id (meaning (S.Source.content source.old)) rows.now) []) }
@@ -194,7 +194,7 @@ pub fn write_changed_recipients<S: Source, T: Source>(
 ) -> Option<usize>
     requires fits { length out.old < 2 ^ 32 }
     requires room { list_limit ≤ length lent.old }
-    requires sound { All (Standing (meaning (S.Source.content source.old))) rows.now }
+    requires sound { AllByRecursion (Standing (meaning (S.Source.content source.old))) rows.now }
     requires meant { (ρ : spec.Rowing) × RowingMeans (meaning (T.Source.content input.old)) rowing ρ }
     ensures same { S.Source.content source.new ≡ S.Source.content source.old }
     ensures kept { T.Source.content input.new ≡ T.Source.content input.old }

@@ -1,6 +1,6 @@
 -- The normal data of contents mean the contents, under every rule.
 use Rattle.std.proofs.Common.{◌≡◌, ℕ, zero, suc, ◌+◌, ◌-◌, ◌^◌, ◌<◌, ◌≤◌, Bool, true, false, ◌&&◌, ◌||◌, eqb, leb, List, [], ◌∷◌, ◌++◌, map, length, is_some, Some, None, Option, sym, refl, ap, ◌∙◌, inl, inr, arith}
-use Rattle.std.specs.List.{AllByRecursion as All}
+use Rattle.std.specs.List.{AllByRecursion}
 use Rattle.std.proofs.lemmas.List.{length-append, length-map}
 use Rattle.std.proofs.lemmas.Bool.{eqb-true, and_parts, cases_Bool, le-leb, leb-true}
 use Rattle.source.specs.Bytes.{Octets, le, val, part}
@@ -21,7 +21,7 @@ use Rattle.contents.proofs.Parts.{where_some, also_some, then_some, exactly_some
 
 -- Text: no zero before the last byte.
 abbrev pub NoZero : List ℕ → Type 0
-NoZero t = All (λ x. eqb x 0 ≡ false) t
+NoZero t = AllByRecursion (λ x. eqb x 0 ≡ false) t
 
 pub zero_back : (t : List ℕ) → NoZero t → before_zero (t ++ 0 ∷ []) ≡ Some t
 unfolding before_zero

@@ -21,7 +21,7 @@ use Rattle.property.specs.Lists.{Property, list_limit, row_limit, one_property}
 use Rattle.property.specs.Names.{one_key}
 use Rattle.stream.specs.Messages.{Message, Holding}
 use Rattle.message.specs.declared.Target.{Target}
-use Rattle.message.specs.declared.Target.TheVariants.{Message as to-message, Row as to_row, Attachment as to-attachment}
+use Rattle.message.specs.declared.Target.TheVariants.{Message as to_message, Row as to_row, Attachment as to_attachment}
 use Rattle.message.specs.Sameness.{nth, row_holding, holding}
 use Rattle.editing.specs.Slots.{has_key}
 use Rattle.editing.specs.Targets.{with_holding, with_attributes, with_properties, may_put, may_drop, attribute_for}
@@ -30,7 +30,7 @@ use Rattle.editing.specs.Amendments.{Slot, kept, put, dropped, Listing, same, wi
 
 -- A change of one target is a change of what it holds.
 pub at_target : (m : Message) (t : Target) (h : Holding) (c : Touch) → holding m t ≡ Some h → amended (to_target t c) m ≡ with_holding m t (touched c h)
-at_target m to-message h c e = let q : m.own ≡ h = cc in ap (λ o. with_holding m to-message (touched c o)) q
+at_target m to_message h c e = let q : m.own ≡ h = cc in ap (λ o. with_holding m to_message (touched c o)) q
 at_target m (to_row r) h c e = by_row (nth m.rows r) refl e
   where
     by_row : (o : Option (List Property)) → nth m.rows r ≡ o → row_holding o ≡ Some h → amended (to_target (to_row r) c) m ≡ with_holding m (to_row r) (touched c h)
@@ -39,7 +39,7 @@ at_target m (to_row r) h c e = by_row (nth m.rows r) refl e
         some_same : {A : Type 0} {a b : A} → ◌≡◌ {A = Option A} (Some a) (Some b) → a ≡ b
         some_same e = cc
     by_row None n e = absurd (let z : ◌≡◌ {A = ℕ} 0 1 = cc in omega arith)
-at_target m (to-attachment k) h c e = ap (λ o. with_list (change_at m.attachments k c o)) e
+at_target m (to_attachment k) h c e = ap (λ o. with_list (change_at m.attachments k c o)) e
   where
     with_list : List Holding → Message
     with_list hs = record { primary = m.primary; own = m.own; rows = m.rows; attachments = hs }

@@ -20,7 +20,7 @@ use Rattle.property.specs.Rows.{Carries}
 use Rattle.stream.specs.Reading.{nature, plain}
 use Rattle.stream.specs.Messages.{Message, Holding}
 use Rattle.message.specs.declared.Target.{Target}
-use Rattle.message.specs.declared.Target.TheVariants.{Row as to_row, Attachment as to-attachment}
+use Rattle.message.specs.declared.Target.TheVariants.{Row as to_row, Attachment as to_attachment}
 use Rattle.message.specs.Sameness as sameness
 use Rattle.message.specs.Sameness.{nth, row_holding, holding}
 use Rattle.message.proofs.FrameReads.{id_of}
@@ -224,11 +224,11 @@ module _ (m : Message) where
       by (Some ps) q = refl
       by None q = absurd (err_not_ok (sym q))
 
-  pub attachment_not_there : (k : ℕ) (e : Refusal) → Err e ≡ done (given (holding m (to-attachment k)) Missing 0) → change (remove_attachment k) m ≡ Err e
+  pub attachment_not_there : (k : ℕ) (e : Refusal) → Err e ≡ done (given (holding m (to_attachment k)) Missing 0) → change (remove_attachment k) m ≡ Err e
   unfolding change ◌>>=◌
   attachment_not_there k e q = rw (lost (given (nth m.attachments k) Missing 0) e q)
 
-  pub attachment_there : (k : ℕ) (u : Unit {0}) → Ok u ≡ done (given (holding m (to-attachment k)) Missing 0)
+  pub attachment_there : (k : ℕ) (u : Unit {0}) → Ok u ≡ done (given (holding m (to_attachment k)) Missing 0)
       → change (remove_attachment k) m ≡ Ok (amended (to_attachments (spec.attachment_removed k)) m)
   unfolding change ◌>>=◌
   attachment_there k u q = let (h, e) = got (given (nth m.attachments k) Missing 0) u q in rw e

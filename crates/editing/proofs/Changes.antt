@@ -1,6 +1,6 @@
 -- Edits keep messages shaped.
 use Rattle.std.proofs.Common.{◌≡◌, ℕ, ◌≤◌, Bool, true, false, not, ◌&&◌, ◌||◌, eqb, List, [], ◌∷◌, ◌++◌, length, Some, None, Ok, Option, sym, refl, ap, ◌∙◌, inl, inr, arith}
-use Rattle.std.specs.List.{AllByRecursion as All}
+use Rattle.std.specs.List.{AllByRecursion}
 use Rattle.std.proofs.lemmas.List.{length-append}
 use Rattle.std.proofs.ByRecursion.{All-push}
 use Rattle.std.proofs.lemmas.Bool.{and_parts, eqb-true, eq-eqb, and_from, cases_Bool, both_ways, ltb-true}
@@ -20,7 +20,7 @@ use Rattle.stream.specs.Reading.{nature}
 use Rattle.stream.specs.Messages.{Message, Holding}
 use Rattle.stream.specs.Writing.{written}
 use Rattle.message.specs.declared.Target.{Target}
-use Rattle.message.specs.declared.Target.TheVariants.{Message as to-message, Row as to_row, Attachment as to-attachment}
+use Rattle.message.specs.declared.Target.TheVariants.{Message as to_message, Row as to_row, Attachment as to_attachment}
 use Rattle.message.specs.Sameness.{nth, row_holding, holding}
 use Rattle.message.proofs.Outcomes.{bind_ok, need_ok}
 use Rattle.message.proofs.FrameReads.{id_of}
@@ -108,17 +108,17 @@ not_so false e = refl
 
 -- What a target may hold.
 abbrev Fit : Target → Holding → Type 0
-Fit to-message h = ShapedHolding message_attributes h
+Fit to_message h = ShapedHolding message_attributes h
 Fit (to_row r) h = WellList h.properties
-Fit (to-attachment k) h = ShapedAttachment h
+Fit (to_attachment k) h = ShapedAttachment h
 
 fit_list : (t : Target) (h : Holding) → Fit t h → WellList h.properties
-fit_list to-message h f = f.list_well
+fit_list to_message h f = f.list_well
 fit_list (to_row r) h f = f
-fit_list (to-attachment k) h f = f.holds.list_well
+fit_list (to_attachment k) h f = f.holds.list_well
 
 holding_fits : (m : Message) (t : Target) (h : Holding) → Shaped m → holding m t ≡ Some h → Fit t h
-holding_fits m to-message h s is = let same : m.own ≡ h = cc in rw same at s.own_shaped
+holding_fits m to_message h s is = let same : m.own ≡ h = cc in rw same at s.own_shaped
 holding_fits m (to_row r) h s is = go (nth m.rows r) refl is
   where
     go : (o : Option (List Property)) → nth m.rows r ≡ o → row_holding o ≡ Some h → WellList h.properties
@@ -127,10 +127,10 @@ holding_fits m (to_row r) h s is = go (nth m.rows r) refl is
         let same : record { attributes = λ i. None; properties = ps } ≡ h = cc in
         let list : ps ≡ h.properties = ap (λ g. g.properties) same in
         rw list at (nth_all WellList m.rows r ps s.rows_well e)
-holding_fits m (to-attachment k) h s is = nth_all ShapedAttachment m.attachments k h s.attachments_shaped is
+holding_fits m (to_attachment k) h s is = nth_all ShapedAttachment m.attachments k h s.attachments_shaped is
 
 with_shaped : (m : Message) (t : Target) (h : Holding) → Shaped m → Fit t h → Shaped (with_holding m t h)
-with_shaped m to-message h s f = record {
+with_shaped m to_message h s f = record {
   primary_small = s.primary_small;
   own_shaped = f;
   rows_well = s.rows_well;
@@ -146,7 +146,7 @@ with_shaped m (to_row r) h s f = record {
   attachments_shaped = s.attachments_shaped;
   attachments_few = s.attachments_few;
 }
-with_shaped m (to-attachment k) h s f = record {
+with_shaped m (to_attachment k) h s f = record {
   primary_small = s.primary_small;
   own_shaped = s.own_shaped;
   rows_well = s.rows_well;
@@ -156,17 +156,17 @@ with_shaped m (to-attachment k) h s f = record {
 }
 
 list_fits : (t : Target) (h : Holding) (ps : List Property) → Fit t h → WellList ps → Fit t (with_properties h ps)
-list_fits to-message h ps f w = record { admitted = f.admitted; list_well = w }
+list_fits to_message h ps f w = record { admitted = f.admitted; list_well = w }
 list_fits (to_row r) h ps f w = w
-list_fits (to-attachment k) h ps f w = record { holds = record { admitted = f.holds.admitted; list_well = w }; rendering = f.rendering }
+list_fits (to_attachment k) h ps f w = record { holds = record { admitted = f.holds.admitted; list_well = w }; rendering = f.rendering }
 
 put_fits : (t : Target) (h : Holding) (i l : ℕ) (r : Rule) (c : Contents) → Fit t h → l ≡ target_level t → attribute_of i ≡ Some (attribute i l r) → is_plain (nature r) ≡ true →
     Again r c → Fit t (with_attributes h (put_contents h.attributes i c))
-put_fits to-message h i l r c f lev is pl m =
+put_fits to_message h i l r c f lev is pl m =
     let has = implied _ _ (and_from _ _ (eq-eqb l 1 lev) pl) (placed i (attribute i l r) is).in_message in
     record { admitted = put_admitted message_attributes h.attributes i (attribute i l r) c f.admitted is has m; list_well = f.list_well }
 put_fits (to_row k) h i l r c f lev is pl m = f
-put_fits (to-attachment k) h i l r c f lev is pl m =
+put_fits (to_attachment k) h i l r c f lev is pl m =
     let has = implied _ _ (and_from _ _ (eq-eqb l 2 lev) pl) (placed i (attribute i l r) is).in_attachment in
     record {
       holds = record { admitted = put_admitted of_attachments h.attributes i (attribute i l r) c f.holds.admitted is has m; list_well = f.holds.list_well };
@@ -174,9 +174,9 @@ put_fits (to-attachment k) h i l r c f lev is pl m =
     }
 
 drop_fits : (t : Target) (h : Holding) (i : ℕ) → Fit t h → eqb i rendering_id ≡ false → Fit t (with_attributes h (without_id i h.attributes))
-drop_fits to-message h i f no' = record { admitted = drop_admitted message_attributes h.attributes i f.admitted; list_well = f.list_well }
+drop_fits to_message h i f no' = record { admitted = drop_admitted message_attributes h.attributes i f.admitted; list_well = f.list_well }
 drop_fits (to_row k) h i f no' = f
-drop_fits (to-attachment k) h i f no' =
+drop_fits (to_attachment k) h i f no' =
     let (c, is) = f.rendering in
     record {
       holds = record { admitted = drop_admitted of_attachments h.attributes i f.holds.admitted; list_well = f.holds.list_well };
@@ -207,7 +207,7 @@ put_shaped m t i l CodePage c h ds o e may s f lev is = record {
   attachments_few = s.attachments_few;
 }
 
-with_rows : (m : Message) (rs : List (List Property)) → Shaped m → All WellList rs → length rs ≤ row_limit → Shaped (record { primary = m.primary; own = m.own; rows = rs; attachments = m.attachments })
+with_rows : (m : Message) (rs : List (List Property)) → Shaped m → AllByRecursion WellList rs → length rs ≤ row_limit → Shaped (record { primary = m.primary; own = m.own; rows = rs; attachments = m.attachments })
 with_rows m rs s w few = record {
   primary_small = s.primary_small;
   own_shaped = s.own_shaped;
@@ -217,7 +217,7 @@ with_rows m rs s w few = record {
   attachments_few = s.attachments_few;
 }
 
-with_attachments : (m : Message) (hs : List Holding) → Shaped m → All ShapedAttachment hs → length hs ≤ attachment_limit → Shaped (record { primary = m.primary; own = m.own; rows = m.rows; attachments = hs })
+with_attachments : (m : Message) (hs : List Holding) → Shaped m → AllByRecursion ShapedAttachment hs → length hs ≤ attachment_limit → Shaped (record { primary = m.primary; own = m.own; rows = m.rows; attachments = hs })
 with_attachments m hs s w few = record {
   primary_small = s.primary_small;
   own_shaped = s.own_shaped;

@@ -1,6 +1,6 @@
 -- Lists of properties after one is put or dropped.
 use Rattle.std.proofs.Common.{◌≡◌, ◌≤◌, true, false, ◌||◌, ltb, List, [], ◌∷◌, ◌++◌, length, sym, refl, ap, ◌∙◌, inl, inr, arith}
-use Rattle.std.specs.List.{AllByRecursion as All}
+use Rattle.std.specs.List.{AllByRecursion}
 use Rattle.std.proofs.lemmas.List.{length-append}
 use Rattle.std.proofs.ByRecursion.{All-push}
 use Rattle.std.proofs.lemmas.Bool.{or_parts, or_from, cases_Bool, ltb-true}
@@ -39,7 +39,7 @@ apart_push [] p a b = (refl, tt)
 apart_push (q ∷ ps) p a b = let (c, d) = or_parts _ _ b in (has_push q.key ps p a.0 (other_key q.key p.key c), apart_push ps p a.1 d)
 
 -- Properties put.
-replace_all : (P : Property → Type 0) (ps : List Property) (p : Property) → All P ps → P p → All P (replace_property ps p)
+replace_all : (P : Property → Type 0) (ps : List Property) (p : Property) → AllByRecursion P ps → P p → AllByRecursion P (replace_property ps p)
 replace_all P [] p a b = tt
 replace_all P (q ∷ qs) p a b =
     elim (cases_Bool (same_key q.key p.key)) [
@@ -91,7 +91,7 @@ put_well ps p w v room =
     ]
 
 -- Properties dropped.
-drop_all : (P : Property → Type 0) (k : Key) (ps : List Property) → All P ps → All P (without_key k ps)
+drop_all : (P : Property → Type 0) (k : Key) (ps : List Property) → AllByRecursion P ps → AllByRecursion P (without_key k ps)
 drop_all P k [] a = tt
 drop_all P k (q ∷ qs) a =
     elim (cases_Bool (same_key q.key k)) [

@@ -1,21 +1,21 @@
 -- Lists of which one element is found, changed or left out.
 use Rattle.std.proofs.Common.{◌≡◌, ℕ, zero, suc, ◌≤◌, List, [], ◌∷◌, length, Some, refl, ap, arith}
-use Rattle.std.specs.List.{AllByRecursion as All}
+use Rattle.std.specs.List.{AllByRecursion}
 use Rattle.message.specs.Sameness.{nth}
 use Rattle.editing.specs.Slots.{change_nth, without_nth}
 
 module _ {A : Type 0} (P : A → Type 0) where
-  pub nth_all : (xs : List A) (n : ℕ) (a : A) → All P xs → nth xs n ≡ Some a → P a
+  pub nth_all : (xs : List A) (n : ℕ) (a : A) → AllByRecursion P xs → nth xs n ≡ Some a → P a
   nth_all [] n a all is = absurd (let z : ◌≡◌ {A = ℕ} 0 1 = cc in omega arith)
   nth_all (x ∷ xs) zero a all is = let same : x ≡ a = cc in rw same at all.0
   nth_all (x ∷ xs) (suc n) a all is = nth_all xs n a all.1 is
 
-  pub change_all : (xs : List A) (n : ℕ) (y : A) → All P xs → P y → All P (change_nth xs n y)
+  pub change_all : (xs : List A) (n : ℕ) (y : A) → AllByRecursion P xs → P y → AllByRecursion P (change_nth xs n y)
   change_all [] n y all p = tt
   change_all (x ∷ xs) zero y all p = (p, all.1)
   change_all (x ∷ xs) (suc n) y all p = (all.0, change_all xs n y all.1 p)
 
-  pub without_all : (xs : List A) (n : ℕ) → All P xs → All P (without_nth xs n)
+  pub without_all : (xs : List A) (n : ℕ) → AllByRecursion P xs → AllByRecursion P (without_nth xs n)
   without_all [] n all = tt
   without_all (x ∷ xs) zero all = all.1
   without_all (x ∷ xs) (suc n) all = (all.0, without_all xs n all.1)

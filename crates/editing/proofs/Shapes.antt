@@ -1,6 +1,6 @@
 -- What well-formed messages are apart from sizes; the sizes follow where the written form is short.
 use Rattle.std.proofs.Common.{◌≡◌, ℕ, ◌+◌, ◌^◌, ◌<◌, ◌≤◌, true, false, eqb, List, [], ◌∷◌, ◌++◌, length, Some, sum_by, Option, refl, ap, ◌∙◌, inl, inr, arith}
-use Rattle.std.specs.List.{flat_map, AllByRecursion as All}
+use Rattle.std.specs.List.{flat_map, AllByRecursion}
 use Rattle.std.proofs.lemmas.List.{length-append}
 use Rattle.std.proofs.lemmas.List.Sums.{sum_by-cons, sum_by-append}
 use Rattle.std.proofs.ByRecursion.{All-weaker}
@@ -37,9 +37,9 @@ pub record ShapedAttachment (h : Holding) : Type 0 where
 pub record Shaped (m : Message) : Type 0 where
   pub primary_small : m.primary < 256 ^ 4
   pub own_shaped : ShapedHolding message_attributes m.own
-  pub rows_well : All WellList m.rows
+  pub rows_well : AllByRecursion WellList m.rows
   pub rows_few : length m.rows ≤ row_limit
-  pub attachments_shaped : All ShapedAttachment m.attachments
+  pub attachments_shaped : AllByRecursion ShapedAttachment m.attachments
   pub attachments_few : length m.attachments ≤ attachment_limit
 
 -- Well-formed messages are shaped.
@@ -111,7 +111,7 @@ attachment_well h s a =
       rendering = s.rendering;
     }
 
-attachments_well : (hs : List Holding) → All ShapedAttachment hs → bulk (flat_map attachment_entries hs) ≤ source_limit → All WellAttachment hs
+attachments_well : (hs : List Holding) → AllByRecursion ShapedAttachment hs → bulk (flat_map attachment_entries hs) ≤ source_limit → AllByRecursion WellAttachment hs
 attachments_well [] s a = tt
 attachments_well (h ∷ hs) s a =
     let b = bulk_append (attachment_entries h) (flat_map attachment_entries hs) in

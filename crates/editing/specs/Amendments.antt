@@ -5,7 +5,7 @@ use Rattle.index.specs.Keys.{Key}
 use Rattle.property.specs.Lists.{Property}
 use Rattle.stream.specs.Messages.{Message, Holding, or_default}
 use Rattle.message.specs.declared.Target.{Target}
-use Rattle.message.specs.declared.Target.TheVariants.{Message as to-message, Row as to_row, Attachment as to-attachment}
+use Rattle.message.specs.declared.Target.TheVariants.{Message as to_message, Row as to_row, Attachment as to_attachment}
 use Rattle.message.specs.Sameness.{nth}
 use Rattle.editing.specs.Slots.{without_id, put_contents, put_in, without_key, change_nth, without_nth}
 use Rattle.editing.specs.Edits.{bare_attachment}
@@ -92,9 +92,9 @@ amended a m = record {
 
 -- Nothing changed but a target.
 abbrev pub to_target : Target → Touch → Amendment
-to_target to-message t = record { page = None; own = t; rows = as_they_are; attachments = as_before }
+to_target to_message t = record { page = None; own = t; rows = as_they_are; attachments = as_before }
 to_target (to_row r) t = record { page = None; own = untouched; rows = row_changed r t.listing; attachments = as_before }
-to_target (to-attachment k) t = record { page = None; own = untouched; rows = as_they_are; attachments = attachment_changed k t }
+to_target (to_attachment k) t = record { page = None; own = untouched; rows = as_they_are; attachments = attachment_changed k t }
 
 -- Nothing changed but the primary number, the number of rows, or the number of attachments.
 abbrev pub to_page : ℕ → Amendment

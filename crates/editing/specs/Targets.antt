@@ -10,14 +10,14 @@ use Rattle.contents.specs.Contents.{Contents}
 use Rattle.property.specs.Lists.{Property}
 use Rattle.stream.specs.Messages.{Message, Holding}
 use Rattle.message.specs.declared.Target.{Target}
-use Rattle.message.specs.declared.Target.TheVariants.{Message as to-message, Row as to_row, Attachment as to-attachment}
+use Rattle.message.specs.declared.Target.TheVariants.{Message as to_message, Row as to_row, Attachment as to_attachment}
 use Rattle.editing.specs.Slots.{change_nth}
 
 abbrev pub with_holding : Message → Target → Holding → Message
-with_holding m to-message h = record { primary = m.primary; own = h; rows = m.rows; attachments = m.attachments }
+with_holding m to_message h = record { primary = m.primary; own = h; rows = m.rows; attachments = m.attachments }
 with_holding m (to_row r) h =
     record { primary = m.primary; own = m.own; rows = change_nth m.rows r h.properties; attachments = m.attachments }
-with_holding m (to-attachment k) h =
+with_holding m (to_attachment k) h =
     record { primary = m.primary; own = m.own; rows = m.rows; attachments = change_nth m.attachments k h }
 
 abbrev pub with_attributes : Holding → (ℕ → Option Contents) → Holding
@@ -28,9 +28,9 @@ with_properties h ps = record { attributes = h.attributes; properties = ps }
 
 -- The level of the attributes that a target may have; a row has none.
 abbrev pub target_level : Target → ℕ
-target_level to-message = 1
+target_level to_message = 1
 target_level (to_row r) = 0
-target_level (to-attachment k) = 2
+target_level (to_attachment k) = 2
 
 -- How an attribute may be used in a draft.
 pub data Use : Type 0 where

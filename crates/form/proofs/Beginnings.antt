@@ -1,6 +1,6 @@
 -- How a readable stream begins, and the parts of its entries.
 use Rattle.std.proofs.Common.{◌≡◌, ℕ, ◌<◌, ◌≤◌, Bool, true, false, cond, eqb, List, [], ◌∷◌, ◌++◌, map, length, Some, None, Ok, Option, refl, ap, ◌∙◌, inl, inr, arith}
-use Rattle.std.specs.List.{flat_map, AllByRecursion as All}
+use Rattle.std.specs.List.{flat_map, AllByRecursion}
 use Rattle.std.proofs.lemmas.Bool.{cases_eq, both_ways, eqb-true, eq-eqb, ne_eqb}
 use Rattle.source.proofs.Outcomes.{err_not_ok}
 use Rattle.attribute.specs.Table.{attribute_of, rendering_id, version_id, code_page_id}
@@ -173,5 +173,5 @@ module _ (xs : List ℕ) (p : ℕ) (s : Stage) (g : Readable xs p s) where
         let (e, es, m, d) = head in
         let level = own_levels xs p s e es g m in
         let two : level_of e.id ≡ 2 = ap level_of d ∙ rendering_level in
-        let l : All (λ x. level_of x.id ≡ 2) (own_part (e ∷ es)) = rw two at level in
+        let l : AllByRecursion (λ x. level_of x.id ≡ 2) (own_part (e ∷ es)) = rw two at level in
         attachment_same xs (own_part (remaining xs p s)) rows k.gathered (own_all Apt _ (all_apt xs _ p s g refl)) (rw m l)

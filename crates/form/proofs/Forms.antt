@@ -1,6 +1,6 @@
 -- The parts of what is written of a stream are the written form of the message that it carries.
 use Rattle.std.proofs.Common.{◌≡◌, ℕ, List, [], ◌∷◌, ◌++◌, map, Some, sym, refl, ap, ◌∙◌, append_assoc}
-use Rattle.std.specs.List.{flat_map, AllByRecursion as All}
+use Rattle.std.specs.List.{flat_map, AllByRecursion}
 use Rattle.attribute.specs.Table.{attribute_of, message_attributes, message_properties_id, version_id, code_page_id}
 use Rattle.frame.specs.Frames.{signature}
 use Rattle.frame.specs.declared.stages.Stage.{Stage}
@@ -52,11 +52,11 @@ module _ (xs : List ℕ) (rows : List AttributeRow) (q : ℕ) (t : Stage) (good 
   unfolding attribute_of
   version_level = refl
 
-  pub own_level : All (λ x. level_of x.id ≡ 1) (own_part (remaining xs 6 stage.Version))
+  pub own_level : AllByRecursion (λ x. level_of x.id ≡ 1) (own_part (remaining xs 6 stage.Version))
   own_level =
       let (n, es, e) = begins xs good in
       let level = own_levels xs 6 stage.Version opener (pager n ∷ es) good e in
-      let l : All (λ x. level_of x.id ≡ 1) (own_part (opener ∷ (pager n ∷ es))) = rw version_level at level in
+      let l : AllByRecursion (λ x. level_of x.id ≡ 1) (own_part (opener ∷ (pager n ∷ es))) = rw version_level at level in
       rw e l
 
   message_is : message_bytes xs rows ≡ flat_map write_entry (message_entries (message_of (remaining xs 6 stage.Version)))

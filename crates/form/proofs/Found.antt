@@ -1,6 +1,6 @@
 -- The row under an id, and the list or table that its data mean.
 use Rattle.std.proofs.Common.{◌≡◌, ℕ, zero, suc, ◌+◌, ◌≤◌, false, eqb, leb, List, [], ◌∷◌, ◌++◌, map, length, Some, None, Ok, fold, sym, refl, ap, ◌∙◌, inl, inr, append-nil, arith}
-use Rattle.std.specs.List.{flat_map, AllByRecursion as All}
+use Rattle.std.specs.List.{flat_map, AllByRecursion}
 use Rattle.std.proofs.lemmas.Bool.{cases_eq, cases_Bool, eq-eqb, ne_eqb, leb-true}
 use Rattle.source.specs.Bytes.{part, val}
 use Rattle.source.specs.Outcome.{Outcome, ◌>>=◌, ◌>>◌, need}
@@ -22,7 +22,7 @@ use Rattle.form.specs.Targets.{rule_in, row_meant, or_version, row_entry, Standi
 use Rattle.form.specs.Holdings.{Natured, told_by, told_in, list_bytes, table_bytes}
 
 module _ (xs : List ℕ) (i : ℕ) where
-  pub row_found : (rs : List AttributeRow) (r : AttributeRow) → All (Standing xs) rs → Some r ≡ row_under i rs
+  pub row_found : (rs : List AttributeRow) (r : AttributeRow) → AllByRecursion (Standing xs) rs → Some r ≡ row_under i rs
       → (r.id ≡ i) × Standing xs r × (entry_under i (map (row_entry xs) rs) ≡ Some (row_entry xs r))
   unfolding row_entry
   row_found [] r s e = let z : ◌≡◌ {A = ℕ} 0 1 = cc in absurd (omega arith)
@@ -162,7 +162,7 @@ pub record TableHeld (xs : List ℕ) (rs : List AttributeRow) (r : AttributeRow)
   pub room : r.place + 4 ≤ length xs
   pub told : told_in as_table recipients_id xs rs ≡ Some ts
 
-module _ (xs : List ℕ) (rs : List AttributeRow) (sound : All (Standing xs) rs) (a : Attribute) (r : AttributeRow) (e : Some r ≡ row_under a.id rs) where
+module _ (xs : List ℕ) (rs : List AttributeRow) (sound : AllByRecursion (Standing xs) rs) (a : Attribute) (r : AttributeRow) (e : Some r ≡ row_under a.id rs) where
   pub list_held : Natured properties a → (ps : List Property) × ListHeld xs rs a r ps
   unfolding row_entry
   list_held p =

@@ -1,6 +1,6 @@
 -- Rows of a target that are gathered frame by frame.
 use Rattle.std.proofs.Common.{◌≡◌, ℕ, zero, suc, ◌+◌, ◌<◌, ◌≤◌, Bool, true, false, cond, ◌&&◌, ◌||◌, eqb, ltb, List, [], ◌∷◌, ◌++◌, map, length, get_or, take, Some, None, Option, sym, refl, ap, ◌∙◌, inl, inr, one-add, arith}
-use Rattle.std.specs.List.{AllByRecursion as All}
+use Rattle.std.specs.List.{AllByRecursion}
 use Rattle.std.proofs.lemmas.List.{length-append, length-take}
 use Rattle.std.proofs.ByRecursion.{All-push}
 use Rattle.std.proofs.lemmas.Bool.{cases_Bool, cases_eq, both_ways, lt-ltb, eq-eqb, ne_eqb, or_parts}
@@ -131,7 +131,7 @@ module _ (r : AttributeRow) where
     | inr f ↦ let k = covered_new rs table b e (sym (has_is rs r) ∙ f) in rw f (omega (arith, length-append rs (r ∷ [])))
   ]
 
-  stand_more : (P : AttributeRow → Type 0) (rs : List AttributeRow) → P r → All P rs → All P (added same_id false rs r)
+  stand_more : (P : AttributeRow → Type 0) (rs : List AttributeRow) → P r → AllByRecursion P rs → AllByRecursion P (added same_id false rs r)
   stand_more P rs p h = elim (cases_Bool (has same_id rs r)) [
     | inl t ↦ rw t h
     | inr f ↦ rw f (All-push P rs r h p)
@@ -162,12 +162,12 @@ pub record Gathering (xs : List ℕ) (p : ℕ) (s : Stage) (used : ℕ) (rows : 
   pub good : Readable xs q t
   pub room : used ≤ length rows
   pub few : length (take used rows) ≤ covered (take used rows) attributes
-  pub sound : All (Standing xs) (take used rows)
+  pub sound : AllByRecursion (Standing xs) (take used rows)
   pub held : (i : ℕ) → entry_under i (own_part (remaining xs p s)) ≡ or_else (entry_under i (map (row_entry xs) (take used rows))) (entry_under i (left_part used (remaining xs q t)))
   pub past : past_part (remaining xs p s) ≡ left_past used (remaining xs q t)
   pub moved : Moved used p q
   pub along : AsWritten xs p s → AsWritten xs q t
-  pub normal : AsWritten xs p s → All (NormalRow xs) (take used rows)
+  pub normal : AsWritten xs p s → AllByRecursion (NormalRow xs) (take used rows)
 
 pub gather_none : (xs : List ℕ) (p : ℕ) (s : Stage) (rows : List AttributeRow) → Readable xs p s → Gathering xs p s 0 rows p s
 gather_none xs p s rows g = record { good = g; room = omega arith; few = omega arith; sound = tt; held = λ i. refl; past = refl; moved = refl; along = λ w. w; normal = λ w. tt }

@@ -1,6 +1,6 @@
 -- What rows hold under an id, and its frame.
 use Rattle.std.proofs.Common.{◌≡◌, ℕ, ◌+◌, ◌<◌, ◌≤◌, true, List, [], ◌∷◌, ◌++◌, length, get_or, drop, is_some, Some, None, Ok, Option, sym, refl, ap, ◌∙◌, inl, inr, append_assoc, append-nil, arith}
-use Rattle.std.specs.List.{flat_map, AllByRecursion as All}
+use Rattle.std.specs.List.{flat_map, AllByRecursion}
 use Rattle.std.proofs.lemmas.List.{drop_more, drop_all}
 use Rattle.std.proofs.lemmas.Bool.{cases_eq, eq-eqb, ne_eqb}
 use Rattle.source.specs.Bytes.{part}
@@ -49,7 +49,7 @@ module _ (xs : List ℕ) (a : Attribute) (p : Plain a) where
   passed q rows n = rw (ne_eqb q.id a.id n)
 
   -- The row under its id tells.
-  pub held_some : (rows : List AttributeRow) (r : AttributeRow) → All (Standing xs) rows → Some r ≡ row_under a.id rows
+  pub held_some : (rows : List AttributeRow) (r : AttributeRow) → AllByRecursion (Standing xs) rows → Some r ≡ row_under a.id rows
       → (c : Contents) × (contents_in xs rows a.id ≡ Some c) × (means a.rule (part xs r.place r.size) ≡ Some c) × (r.place + r.size ≤ length xs)
   unfolding first row_entry
   held_some [] r s e = let z : ◌≡◌ {A = ℕ} 0 1 = cc in absurd (omega arith)
@@ -76,7 +76,7 @@ module _ (xs : List ℕ) (a : Attribute) (p : Plain a) where
   ]
 
   -- The rule admits what the row has.
-  pub row_admitted : (rows : List AttributeRow) (r : AttributeRow) → All (Standing xs) rows → Some r ≡ row_under a.id rows
+  pub row_admitted : (rows : List AttributeRow) (r : AttributeRow) → AllByRecursion (Standing xs) rows → Some r ≡ row_under a.id rows
       → asked (admits a.rule) xs r.place r.size ≡ Ok true
   unfolding admits
   row_admitted rows r s e =
@@ -84,7 +84,7 @@ module _ (xs : List ℕ) (a : Attribute) (p : Plain a) where
       asked_within (admits a.rule) xs r.place r.size w ∙ ap (λ o. Ok (is_some o)) m
 
   -- The frame of an attribute that is there, and of one that is not.
-  pub bytes_some : (rows : List AttributeRow) (r : AttributeRow) → All (Standing xs) rows → Some r ≡ row_under a.id rows
+  pub bytes_some : (rows : List AttributeRow) (r : AttributeRow) → AllByRecursion (Standing xs) rows → Some r ≡ row_under a.id rows
       → attribute_bytes xs rows a ≡ framed a.level a.id (normal_data a.rule (part xs r.place r.size))
   unfolding attribute_bytes write_entry framed
   bytes_some rows r s e =

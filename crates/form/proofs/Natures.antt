@@ -1,7 +1,7 @@
 -- What is known of the entries of a readable stream: their meaning is of the kind that their id has, and those of a
 -- target have one level.
 use Rattle.std.proofs.Common.{◌≡◌, ℕ, ◌+◌, Bool, true, false, cond, ◌&&◌, eqb, ltb, List, [], ◌∷◌, map, Some, None, Ok, Option, sym, refl, ap, ◌∙◌, inl, inr, arith}
-use Rattle.std.specs.List.{AllByRecursion as All}
+use Rattle.std.specs.List.{AllByRecursion}
 use Rattle.std.proofs.lemmas.Bool.{cases_eq, both_ways, eqb-true, eq-eqb, ne_eqb, and_parts}
 use Rattle.source.specs.Outcome.{refused}
 use Rattle.source.specs.declared.refusals.Reason.TheVariants.{Limit}
@@ -51,7 +51,7 @@ pub row_apt : (xs : List ℕ) (r : AttributeRow) → Standing xs r → Apt (row_
 unfolding row_entry row_meant
 row_apt xs r s = meant_apt (nature_of r.id) (rule_in (attribute_of r.id)) xs r.place r.size (or_version (row_meant xs r)) s.reads
 
-pub rows_apt : (xs : List ℕ) (rs : List AttributeRow) → All (Standing xs) rs → All Apt (map (row_entry xs) rs)
+pub rows_apt : (xs : List ℕ) (rs : List AttributeRow) → AllByRecursion (Standing xs) rs → AllByRecursion Apt (map (row_entry xs) rs)
 rows_apt xs [] s = tt
 rows_apt xs (r ∷ rs) s = (row_apt xs r s.0, rows_apt xs rs s.1)
 
@@ -151,7 +151,7 @@ module _ (xs : List ℕ) where
           let q : e ∷ es ≡ row_entry xs (frame_row f) ∷ remaining xs f.next f.stage = sym h ∙ k.more in
           (f, k, cc, cc)
 
-  pub all_apt : (es : List Entry) (p : ℕ) (s : Stage) → Readable xs p s → remaining xs p s ≡ es → All Apt es
+  pub all_apt : (es : List Entry) (p : ℕ) (s : Stage) → Readable xs p s → remaining xs p s ≡ es → AllByRecursion Apt es
   all_apt [] p s g h = tt
   all_apt (e ∷ es) p s g h =
       let (f, k, a, b) = split p s e es g h in
@@ -164,7 +164,7 @@ module _ (xs : List ℕ) where
       let (a, b) = turned s (role f.attribute) p f.stage k.placed.turn in
       (ap level_in k.placed.known ∙ level_role f.attribute.id f.attribute k.placed.known ∙ sym a, λ n. b (not_begun f.attribute n))
 
-  levels_on : (es : List Entry) (p : ℕ) (s : Stage) → Readable xs p s → remaining xs p s ≡ es → All (λ e. level_of e.id ≡ side s) (message_part es)
+  levels_on : (es : List Entry) (p : ℕ) (s : Stage) → Readable xs p s → remaining xs p s ≡ es → AllByRecursion (λ e. level_of e.id ≡ side s) (message_part es)
   unfolding message_part row_entry
   levels_on [] p s g h = tt
   levels_on (e ∷ es) p s g h =
@@ -181,7 +181,7 @@ module _ (xs : List ℕ) where
 
   -- The entries of a target have the level of the first.
   pub own_levels : (p : ℕ) (s : Stage) (e : Entry) (es : List Entry) → Readable xs p s → remaining xs p s ≡ e ∷ es
-      → All (λ x. level_of x.id ≡ level_of e.id) (own_part (e ∷ es))
+      → AllByRecursion (λ x. level_of x.id ≡ level_of e.id) (own_part (e ∷ es))
   unfolding own_part row_entry
   own_levels p s e es g h =
       let (f, k, a, b) = split p s e es g h in

@@ -1,6 +1,6 @@
 -- The code page that a row has, and its frame.
 use Rattle.std.proofs.Common.{◌≡◌, ℕ, ◌+◌, ◌≤◌, true, List, length, is_some, Some, None, Ok, Option, sym, refl, ap, ◌∙◌, arith}
-use Rattle.std.specs.List.{AllByRecursion as All}
+use Rattle.std.specs.List.{AllByRecursion}
 use Rattle.source.specs.Bytes.{part}
 use Rattle.source.specs.Outcome.{given, over}
 use Rattle.source.specs.declared.refusals.Reason.TheVariants.{NotAdmitted}
@@ -30,7 +30,7 @@ page_contents : (ys : List ℕ) (c : Contents) → means rule.CodePage ys ≡ So
 unfolding means
 page_contents ys c e = let (n, _, q) = also_some (code_page_in ys) code_page c e in rw (← q)
 
-module _ (xs : List ℕ) (rs : List AttributeRow) (sound : All (Standing xs) rs) (r : AttributeRow) (e : Some r ≡ row_under code_page_id rs) where
+module _ (xs : List ℕ) (rs : List AttributeRow) (sound : AllByRecursion (Standing xs) rs) (r : AttributeRow) (e : Some r ≡ row_under code_page_id rs) where
   pub page_held : (c : Contents) × (means rule.CodePage (part xs r.place r.size) ≡ Some c) × (told_in as_primary code_page_id xs rs ≡ Some (primary_number c)) × (r.place + r.size ≤ length xs)
   unfolding row_entry meant_as
   page_held =

@@ -1,6 +1,6 @@
 -- What rows tell of a target is what its entries tell.
 use Rattle.std.proofs.Common.{◌≡◌, ℕ, Bool, true, false, cond, eqb, List, [], ◌∷◌, ◌++◌, map, is_some, Some, None, Option, sym, refl, ap, ◌∙◌, inl, inr, append_assoc, arith}
-use Rattle.std.specs.List.{flat_map, AllByRecursion as All}
+use Rattle.std.specs.List.{flat_map, AllByRecursion}
 use Rattle.std.proofs.ByRecursion.{All-weaker}
 use Rattle.std.proofs.lemmas.Bool.{cases_eq, both_ways, eqb-true, eq-eqb, ne_eqb}
 use Rattle.attribute.specs.Table.{attribute, attributes, attribute_of, code_page_id, message_attributes, attachment_attributes, rendering_attribute, rendering_id, recipients_id, message_properties_id, attachment_properties_id}
@@ -19,7 +19,7 @@ use Rattle.form.proofs.Natures.{nature_in, nature_of, level_of, Apt, rows_apt, f
 
 -- The first entry that tells is the one under an id, where those under it tell and the others do not.
 module _ {A : Type 0} (g : Meant → Option A) (i : ℕ) where
-  under_tells : (es : List Entry) → All (λ e. e.id ≡ i → is_some (g e.meant) ≡ true) es
+  under_tells : (es : List Entry) → AllByRecursion (λ e. e.id ≡ i → is_some (g e.meant) ≡ true) es
       → first (λ e. cond (eqb e.id i) (g e.meant) None) es ≡ told_by g (entry_under i es)
   unfolding first
   under_tells [] h = refl
@@ -32,7 +32,7 @@ module _ {A : Type 0} (g : Meant → Option A) (i : ℕ) where
       settled (Some a) u t = refl
       settled None u t = absurd (both_ways false refl t)
 
-  only_under : (es : List Entry) → All (λ e. (e.id ≡ i → ⊥) → g e.meant ≡ None) es
+  only_under : (es : List Entry) → AllByRecursion (λ e. (e.id ≡ i → ⊥) → g e.meant ≡ None) es
       → first (λ e. g e.meant) es ≡ first (λ e. cond (eqb e.id i) (g e.meant) None) es
   unfolding first
   only_under [] h = refl
@@ -121,12 +121,12 @@ recipients_nature : nature_of recipients_id ≡ rows
 unfolding attribute_of
 recipients_nature = refl
 
-both_all : {X : Type 0} (P Q : X → Type 0) (xs : List X) → All P xs → All Q xs → All (λ x. P x × Q x) xs
+both_all : {X : Type 0} (P Q : X → Type 0) (xs : List X) → AllByRecursion P xs → AllByRecursion Q xs → AllByRecursion (λ x. P x × Q x) xs
 both_all P Q [] p q = tt
 both_all P Q (x ∷ xs) p q = ((p.0, q.0), both_all P Q xs p.1 q.1)
 
 -- Entries whose meaning is of the kind that their ids have.
-module _ (es : List Entry) (apt : All Apt es) where
+module _ (es : List Entry) (apt : AllByRecursion Apt es) where
   contents_told : (a : Attribute) → Plain a → first (contents_under a.id) es ≡ told_by as_contents (entry_under a.id es)
   contents_told a p =
       under_tells as_contents a.id es
@@ -137,7 +137,7 @@ module _ (es : List Entry) (apt : All Apt es) where
       only_under as_table recipients_id es (All-weaker Apt _ (λ e h n. no_table e.meant (λ k. n (tabled e.id _ refl (sym h ∙ k)))) es apt)
       ∙ under_tells as_table recipients_id es (All-weaker Apt _ (λ e h d. tells_table e.meant (h ∙ ap nature_of d ∙ recipients_nature)) es apt)
 
-  list_told : (l : ℕ) → nature_of (list_id l) ≡ properties → All (λ e. level_of e.id ≡ l) es
+  list_told : (l : ℕ) → nature_of (list_id l) ≡ properties → AllByRecursion (λ e. level_of e.id ≡ l) es
       → first (λ e. as_list e.meant) es ≡ told_by as_list (entry_under (list_id l) es)
   list_told l k level =
       only_under as_list (list_id l) es
@@ -145,7 +145,7 @@ module _ (es : List Entry) (apt : All Apt es) where
       ∙ under_tells as_list (list_id l) es (All-weaker Apt _ (λ e h d. tells_list e.meant (h ∙ ap nature_of d ∙ k)) es apt)
 
 -- What holds of all entries holds of a target's.
-part_all : (P : Entry → Type 0) (es : List Entry) → All P es → All P (message_part es)
+part_all : (P : Entry → Type 0) (es : List Entry) → AllByRecursion P es → AllByRecursion P (message_part es)
 unfolding message_part
 part_all P [] h = tt
 part_all P (e ∷ es) h = elim (cases_eq e.id rendering_id) [
@@ -153,12 +153,12 @@ part_all P (e ∷ es) h = elim (cases_eq e.id rendering_id) [
   | inr n ↦ rw (ne_eqb e.id rendering_id n) (h.0, part_all P es h.1)
 ]
 
-pub own_all : (P : Entry → Type 0) (es : List Entry) → All P es → All P (own_part es)
+pub own_all : (P : Entry → Type 0) (es : List Entry) → AllByRecursion P es → AllByRecursion P (own_part es)
 unfolding own_part
 own_all P [] h = tt
 own_all P (e ∷ es) h = (h.0, part_all P es h.1)
 
-pub attributes_same : (all : List Attribute) (f h : ℕ → Option Contents) → All (λ a. f a.id ≡ h a.id) all → attribute_entries all f ≡ attribute_entries all h
+pub attributes_same : (all : List Attribute) (f h : ℕ → Option Contents) → AllByRecursion (λ a. f a.id ≡ h a.id) all → attribute_entries all f ≡ attribute_entries all h
 unfolding attribute_entries
 attributes_same [] f h e = refl
 attributes_same (a ∷ rest) f h e = rw (e.0, attributes_same rest f h e.1)
@@ -167,11 +167,11 @@ attributes_same (a ∷ rest) f h e = rw (e.0, attributes_same rest f h e.1)
 plainly : {a : Attribute} → attribute_of a.id ≡ Some a → nature a.rule ≡ plain → Plain a
 plainly k n = record { known = k; kind = n }
 
-pub message_plain : All Plain message_attributes
+pub message_plain : AllByRecursion Plain message_attributes
 unfolding attribute_of
 message_plain = (plainly refl refl, (plainly refl refl, (plainly refl refl, (plainly refl refl, (plainly refl refl, (plainly refl refl, (plainly refl refl, (plainly refl refl, (plainly refl refl, (plainly refl refl, (plainly refl refl, (plainly refl refl, (plainly refl refl, (plainly refl refl, (plainly refl refl, (plainly refl refl, (plainly refl refl, (plainly refl refl, tt))))))))))))))))))
 
-pub attachment_plain : All Plain attachment_attributes
+pub attachment_plain : AllByRecursion Plain attachment_attributes
 unfolding attribute_of
 attachment_plain = (plainly refl refl, (plainly refl refl, (plainly refl refl, (plainly refl refl, (plainly refl refl, (plainly refl refl, tt))))))
 
@@ -208,7 +208,7 @@ target_joined a all f l =
     ∙ ap (λ t. flat_map write_entry (found a.id (f a.id)) ++ t) (joined_append write_entry (attribute_entries all f) l)
 
 -- Rows that were gathered of a target.
-module _ (xs : List ℕ) (es : List Entry) (rs : List AttributeRow) (g : Gathered xs es rs) (apt : All Apt es) where
+module _ (xs : List ℕ) (es : List Entry) (rs : List AttributeRow) (g : Gathered xs es rs) (apt : AllByRecursion Apt es) where
   pub contents_same : (a : Attribute) → Plain a → contents_in xs rs a.id ≡ first (contents_under a.id) es
   contents_same a p =
       contents_told (map (row_entry xs) rs) (rows_apt xs rs g.sound) a p ∙ ap (told_by as_contents) (g.held a.id) ∙ sym (contents_told es apt a p)
@@ -216,14 +216,14 @@ module _ (xs : List ℕ) (es : List Entry) (rs : List AttributeRow) (g : Gathere
   pub table_same : told_in as_table recipients_id xs rs ≡ first (λ e. as_table e.meant) es
   table_same = ap (told_by as_table) (g.held recipients_id) ∙ sym (table_told es apt)
 
-  pub list_same : (l : ℕ) → nature_of (list_id l) ≡ properties → All (λ e. level_of e.id ≡ l) es → told_in as_list (list_id l) xs rs ≡ first (λ e. as_list e.meant) es
+  pub list_same : (l : ℕ) → nature_of (list_id l) ≡ properties → AllByRecursion (λ e. level_of e.id ≡ l) es → told_in as_list (list_id l) xs rs ≡ first (λ e. as_list e.meant) es
   list_same l k level = ap (told_by as_list) (g.held (list_id l)) ∙ sym (list_told es apt l k level)
 
-  all_same : (all : List Attribute) → All Plain all → attribute_entries all (contents_in xs rs) ≡ attribute_entries all (λ i. first (contents_under i) es)
+  all_same : (all : List Attribute) → AllByRecursion Plain all → attribute_entries all (contents_in xs rs) ≡ attribute_entries all (λ i. first (contents_under i) es)
   all_same all p = attributes_same all _ _ (All-weaker Plain _ (λ a h. contents_same a h) all p)
 
   -- The frames of a message.
-  pub message_same : All (λ e. level_of e.id ≡ 1) es
+  pub message_same : AllByRecursion (λ e. level_of e.id ≡ 1) es
       → message_bytes xs rs ≡ flat_map write_entry (attribute_entries message_attributes (λ i. first (contents_under i) es)
       ++ (table_entries (rows_of es) ++ list_entries message_properties_id (properties_of es)))
   unfolding message_bytes table_bytes list_bytes rows_of properties_of attribute_of
@@ -232,7 +232,7 @@ module _ (xs : List ℕ) (es : List Entry) (rs : List AttributeRow) (g : Gathere
       (sym (three_joined (attribute_entries message_attributes (λ i. first (contents_under i) es)) (table_entries (rows_of es)) (list_entries message_properties_id (properties_of es))))
 
   -- The frames of an attachment.
-  pub attachment_same : All (λ e. level_of e.id ≡ 2) es → attachment_bytes xs rs ≡ flat_map write_entry (attachment_entries (holding_of es))
+  pub attachment_same : AllByRecursion (λ e. level_of e.id ≡ 2) es → attachment_bytes xs rs ≡ flat_map write_entry (attachment_entries (holding_of es))
   unfolding attachment_bytes attribute_bytes list_bytes properties_of attribute_of
   attachment_same level =
       rw (contents_same rendering_attribute rendering_plain, all_same attachment_attributes attachment_plain, list_same 2 refl level)

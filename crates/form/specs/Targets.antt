@@ -1,6 +1,6 @@
 -- A target's frames, by the rows of an index.
 use Rattle.std.specs.Prelude.{◌≡◌, ℕ, ◌+◌, ◌^◌, ◌<◌, ◌≤◌, Bool, cond, ◌&&◌, List, [], ◌∷◌, map, length, drop, Some, None, Ok, Err, Option, ◌==◌, nat_lt}
-use Rattle.std.specs.List.{flat_map, AllByRecursion as All}
+use Rattle.std.specs.List.{flat_map, AllByRecursion}
 use Rattle.source.specs.Bytes.{part}
 use Rattle.source.specs.Outcome.{Outcome}
 use Rattle.property.specs.Fields.{done}
@@ -87,7 +87,7 @@ same_id x y = x.id == y.id
 -- Rows that say under each id what entries say: the earliest of that id.
 pub record Gathered (xs : List ℕ) (es : List Entry) (rows : List AttributeRow) : Type 0 where
   pub held : (i : ℕ) → entry_under i (map (row_entry xs) rows) ≡ entry_under i es
-  pub sound : All (Standing xs) rows
+  pub sound : AllByRecursion (Standing xs) rows
 
 -- A stream that from p on is as its entries are written.
 pub record AsWritten (xs : List ℕ) (p : ℕ) (s : Stage) : Type 0 where
@@ -108,4 +108,4 @@ pub record Taken (xs : List ℕ) (p : ℕ) (s : Stage) (rows : List AttributeRow
 -- A target of a stream that is as its entries are written: what is left of the stream is so too, and the rows' data are normal.
 pub record StaysWritten (xs : List ℕ) (p : ℕ) (s : Stage) (rows : List AttributeRow) (q : ℕ) (t : Stage) : Type 0 where
   pub along : AsWritten xs p s → AsWritten xs q t
-  pub normal : AsWritten xs p s → All (NormalRow xs) rows
+  pub normal : AsWritten xs p s → AllByRecursion (NormalRow xs) rows

@@ -1,6 +1,6 @@
 // Attachments, one after another.
 ghost use Rattle.std.specs.Prelude.{◌≡◌, ◌^◌, ◌<◌, ◌≤◌, length};
-ghost use Rattle.std.specs.List.{AllByRecursion as All};
+ghost use Rattle.std.specs.List.{AllByRecursion};
 ghost use Rattle.source.specs.Content.{meaning};
 ghost use Rattle.attribute.specs.Table.{attachment_attributes};
 ghost use Rattle.pen.specs.Pen.{Penned};
@@ -58,7 +58,7 @@ pub fn write_attachment<S: Source>(
 ) -> Option<usize>
     requires fits { length out.old < 2 ^ 32 }
     requires room { list_limit ≤ length lent.old }
-    requires sound { All (Standing (meaning (S.Source.content source.old))) rows.now }
+    requires sound { AllByRecursion (Standing (meaning (S.Source.content source.old))) rows.now }
     ensures same { S.Source.content source.new ≡ S.Source.content source.old }
     ensures value { Penned out.old here
         (attachment_bytes (meaning (S.Source.content source.old)) rows.now) out.new result }

@@ -1,6 +1,6 @@
 // The attributes of a target, written by rising id.
 ghost use Rattle.std.specs.Prelude.{◌≡◌, ◌^◌, ◌<◌, true, length, Ok};
-ghost use Rattle.std.specs.List.{flat_map, AllByRecursion as All};
+ghost use Rattle.std.specs.List.{flat_map, AllByRecursion};
 ghost use Rattle.source.specs.Bytes.{part};
 ghost use Rattle.source.specs.Content.{meaning};
 ghost use Rattle.scan.specs.Scans.{asked};
@@ -47,7 +47,7 @@ pub fn write_attribute<S: Source>(
     here: Option<usize>,
 ) -> Option<usize>
     requires fits { length out.old < 2 ^ 32 }
-    requires sound { All (Standing (meaning (S.Source.content source.old))) rows.now }
+    requires sound { AllByRecursion (Standing (meaning (S.Source.content source.old))) rows.now }
     requires simple { Plain attribute }
     ensures same { S.Source.content source.new ≡ S.Source.content source.old }
     ensures value { Penned out.old here
@@ -69,8 +69,8 @@ pub fn write_attributes<S: Source>(
     start: Option<usize>,
 ) -> Option<usize>
     requires fits { length out.old < 2 ^ 32 }
-    requires sound { All (Standing (meaning (S.Source.content source.old))) rows.now }
-    requires simple { All Plain table.now }
+    requires sound { AllByRecursion (Standing (meaning (S.Source.content source.old))) rows.now }
+    requires simple { AllByRecursion Plain table.now }
     ensures same { S.Source.content source.new ≡ S.Source.content source.old }
     ensures value { Penned out.old start
         (flat_map write_entry (attribute_entries table.now (contents_in (meaning (S.Source.content source.old)) rows.now)))

@@ -1,6 +1,6 @@
 // The front of a form: the header, the version, and the code page.
 ghost use Rattle.std.specs.Prelude.{◌≡◌, ℕ, ◌^◌, ◌<◌, length, Some};
-ghost use Rattle.std.specs.List.{AllByRecursion as All};
+ghost use Rattle.std.specs.List.{AllByRecursion};
 ghost use Rattle.source.specs.Content.{meaning};
 ghost use Rattle.attribute.specs.Table.{code_page_id};
 ghost use Rattle.pen.specs.Pen.{Penned};
@@ -42,7 +42,7 @@ pub fn write_page<S: Source>(
     here: Option<usize>,
 ) -> Option<usize>
     requires fits { length out.old < 2 ^ 32 }
-    requires sound { All (Standing (meaning (S.Source.content source.old))) rows.now }
+    requires sound { AllByRecursion (Standing (meaning (S.Source.content source.old))) rows.now }
     ensures same { S.Source.content source.new ≡ S.Source.content source.old }
     ensures value { (n : ℕ) → told_in as_primary code_page_id (meaning (S.Source.content source.old)) rows.now ≡ Some n
         → Penned out.old here (page_bytes (meaning (S.Source.content source.old)) rows.now) out.new result }

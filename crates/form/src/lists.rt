@@ -1,6 +1,6 @@
 // The frames of lists of properties and of the table of recipients; an empty one has none.
 ghost use Rattle.std.specs.Prelude.{◌≡◌, ◌+◌, ◌^◌, ◌<◌, ◌≤◌, length, ◌==◌};
-ghost use Rattle.std.specs.List.{AllByRecursion as All};
+ghost use Rattle.std.specs.List.{AllByRecursion};
 ghost use Rattle.source.specs.Bytes.{part, val};
 ghost use Rattle.source.specs.Content.{meaning};
 ghost use Rattle.pen.specs.Pen.{Penned};
@@ -40,7 +40,7 @@ pub fn write_properties<S: Source>(
 ) -> Option<usize>
     requires fits { length out.old < 2 ^ 32 }
     requires room { list_limit ≤ length lent.old }
-    requires sound { All (Standing (meaning (S.Source.content source.old))) rows.now }
+    requires sound { AllByRecursion (Standing (meaning (S.Source.content source.old))) rows.now }
     requires listed { Natured properties attribute }
     ensures same { S.Source.content source.new ≡ S.Source.content source.old }
     ensures value { Penned out.old here
@@ -72,7 +72,7 @@ pub fn write_recipients<S: Source>(
 ) -> Option<usize>
     requires fits { length out.old < 2 ^ 32 }
     requires room { list_limit ≤ length lent.old }
-    requires sound { All (Standing (meaning (S.Source.content source.old))) rows.now }
+    requires sound { AllByRecursion (Standing (meaning (S.Source.content source.old))) rows.now }
     ensures same { S.Source.content source.new ≡ S.Source.content source.old }
     ensures value { Penned out.old here
         (table_bytes (meaning (S.Source.content source.old)) rows.now)

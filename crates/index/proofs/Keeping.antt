@@ -1,6 +1,6 @@
 -- What an index keeps, row by row.
 use Rattle.std.proofs.Common.{◌≡◌, ◌+◌, ◌<◌, Bool, true, false, cond, ◌||◌, List, [], ◌∷◌, ◌++◌, length, Some, None, fold, Option, sym, refl, ap, ◌∙◌, inl, inr, arith}
-use Rattle.std.specs.List.{AllByRecursion as All}
+use Rattle.std.specs.List.{AllByRecursion}
 use Rattle.std.proofs.lemmas.List.{append-nil, append_assoc, reverse-append}
 use Rattle.std.proofs.ByRecursion.{All-push, All-weaker}
 use Rattle.std.proofs.lemmas.Bool.{cases_Bool, both_ways, or_parts, or_from, or_left, or_right}
@@ -39,7 +39,7 @@ module _ {R : Type 0} (same : R → R → Bool) (itself : (x : R) → same x x �
   before_like x y [] e = refl
   before_like x y (z ∷ zs) e = rw (same_right x y z e, before_like x y zs e)
 
-  has_itself : (rows : List R) → All (λ x. has same rows x ≡ true) rows
+  has_itself : (rows : List R) → AllByRecursion (λ x. has same rows x ≡ true) rows
   has_itself [] = tt
   has_itself (x ∷ xs) =
       (or_left (same x x) (has same xs x) (itself x), All-weaker _ _ (λ y h. or_right (same x y) (has same xs y) h) xs (has_itself xs))
@@ -115,7 +115,7 @@ module _ {R : Type 0} (same : R → R → Bool) (itself : (x : R) → same x x �
         | inr f ↦ rw f (has_replaced xs r x ∙ a.0, apart_replaced xs r a.1)
       ]
 
-  all_replaced : (P : R → Type 0) (r : R) (rows : List R) → ((x : R) → same x r ≡ true → P x → P r) → All P rows → All P (replaced same rows r)
+  all_replaced : (P : R → Type 0) (r : R) (rows : List R) → ((x : R) → same x r ≡ true → P x → P r) → AllByRecursion P rows → AllByRecursion P (replaced same rows r)
   all_replaced P r [] p a = tt
   all_replaced P r (x ∷ xs) p a =
       elim (cases_Bool (same x r)) [
@@ -132,16 +132,16 @@ module _ {R : Type 0} (same : R → R → Bool) (itself : (x : R) → same x x �
       ]
 
   -- More came, with or without a new row.
-  order_grown : (came rows : List R) (r : R) → All (λ x. has same came x ≡ true) rows → InOrder same came rows → InOrder same (came ++ r ∷ []) rows
+  order_grown : (came rows : List R) (r : R) → AllByRecursion (λ x. has same came x ≡ true) rows → InOrder same came rows → InOrder same (came ++ r ∷ []) rows
   order_grown came [] r k o = tt
   order_grown came (x ∷ xs) r k o = (all_grown xs k.1 o.0, order_grown came xs r k.1 o.1)
     where
-      all_grown : (ys : List R) → All (λ y. has same came y ≡ true) ys → All (λ y. before same came x < before same came y) ys
-          → All (λ y. before same (came ++ r ∷ []) x < before same (came ++ r ∷ []) y) ys
+      all_grown : (ys : List R) → AllByRecursion (λ y. has same came y ≡ true) ys → AllByRecursion (λ y. before same came x < before same came y) ys
+          → AllByRecursion (λ y. before same (came ++ r ∷ []) x < before same (came ++ r ∷ []) y) ys
       all_grown [] k a = tt
       all_grown (y ∷ ys) l a = (rw ((before_known came r x k.0).0, (before_known came r y l.0).0) a.0, all_grown ys l.1 a.1)
 
-  order_push : (came rows : List R) (r : R) → InOrder same came rows → All (λ x. before same came x < before same came r) rows → InOrder same came (rows ++ r ∷ [])
+  order_push : (came rows : List R) (r : R) → InOrder same came rows → AllByRecursion (λ x. before same came x < before same came r) rows → InOrder same came (rows ++ r ∷ [])
   order_push came [] r o a = (tt, tt)
   order_push came (x ∷ xs) r o a = (All-push _ xs r o.0 a.0, order_push came xs r o.1 a.1)
 
@@ -160,7 +160,7 @@ module _ {R : Type 0} (same : R → R → Bool) (itself : (x : R) → same x x �
   standing_push false came r q = found_push came r q
 
   module _ (later : Bool) (came rows : List R) (k : Kept same later came rows) (r : R) where
-    known : All (λ x. has same came x ≡ true) rows
+    known : AllByRecursion (λ x. has same came x ≡ true) rows
     known = All-weaker _ _ (λ x h. sym (k.keys x) ∙ h) rows (has_itself rows)
 
     -- A new key goes to the end.

@@ -1,6 +1,6 @@
 -- What an index keeps, said of all rows that came and of the rows that it then has.
 use Rattle.std.specs.Prelude.{◌≡◌, ◌<◌, Bool, false, cond, List, [], ◌∷◌, reverse, Some, None, Option}
-use Rattle.std.specs.List.{AllByRecursion as All}
+use Rattle.std.specs.List.{AllByRecursion}
 use Rattle.index.specs.Rows.{has, before, indexed}
 
 -- The first row that has the key of r.
@@ -20,7 +20,7 @@ Apart same (x ∷ xs) = (has same xs x ≡ false) × Apart same xs
 -- A row's key first came before the keys of the rows behind it.
 abbrev pub InOrder : {R : Type 0} → (R → R → Bool) → List R → List R → Type 0
 InOrder same came [] = Unit {0}
-InOrder same came (x ∷ xs) = All (λ y. before same came x < before same came y) xs × InOrder same came xs
+InOrder same came (x ∷ xs) = AllByRecursion (λ y. before same came x < before same came y) xs × InOrder same came xs
 
 pub record Kept {R : Type 0} (same : R → R → Bool) (later : Bool) (came rows : List R) : Type 0 where
   pub keys : (r : R) → has same rows r ≡ has same came r

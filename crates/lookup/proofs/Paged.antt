@@ -1,6 +1,6 @@
 -- The primary number that a row of the code page has.
 use Rattle.std.proofs.Common.{◌≡◌, ℕ, ◌+◌, List, Some, None, Ok, Err, Option, unwrap_or, sym, refl, ap, ◌∙◌}
-use Rattle.std.specs.List.{AllByRecursion as All}
+use Rattle.std.specs.List.{AllByRecursion}
 use Rattle.source.specs.Bytes.{part}
 use Rattle.source.specs.declared.refusals.Refusal.{Refusal}
 use Rattle.source.proofs.Outcomes.{err_not_ok, ok_same}
@@ -23,7 +23,7 @@ unfolding means
 page_means ys c e = let (n, f, q) = also_some (code_page_in ys) code_page c e in f ∙ ap (λ x. Some (primary_number x)) q
 
 module _ (xs : List ℕ) (rows : List AttributeRow) where
-  module _ (sound : All (Standing xs) rows) (r : AttributeRow) (e : Some r ≡ row_under code_page_id rows) where
+  module _ (sound : AllByRecursion (Standing xs) rows) (r : AttributeRow) (e : Some r ≡ row_under code_page_id rows) where
     asked_page : asked code_page_in xs r.place r.size ≡ Ok (Some (page_in xs rows))
     asked_page =
         let (c, f, t, w) = page_held xs rows sound r e in

@@ -1,6 +1,6 @@
 -- The rows that were gathered say what a target holds.
 use Rattle.std.proofs.Common.{◌≡◌, ℕ, ◌<◌, List, [], ◌∷◌, map, length, Some, None, Option, sym, refl, ap, ◌∙◌, inl, inr, arith}
-use Rattle.std.specs.List.{AllByRecursion as All}
+use Rattle.std.specs.List.{AllByRecursion}
 use Rattle.std.proofs.lemmas.Bool.{cases_eq, eq-eqb, ne_eqb}
 use Rattle.attribute.specs.Table.{attribute_of, recipients_id, attachment_properties_id}
 use Rattle.attribute.specs.declared.Attribute.{Attribute}
@@ -48,7 +48,7 @@ module _ (xs : List ℕ) where
       let (e, es, m, d) = head xs p s g r h in
       let level = own_levels xs p s e es g m in
       let two : level_of e.id ≡ 2 = ap level_of d ∙ rendering_level xs p s g r h in
-      let l : All (λ x. level_of x.id ≡ 2) (own_part (remaining xs p s)) = rw m (rw two at level) in
+      let l : AllByRecursion (λ x. level_of x.id ≡ 2) (own_part (remaining xs p s)) = rw m (rw two at level) in
       let apt = own_all Apt _ (all_apt xs _ p s g refl) in
       record {
         sound = k.gathered.sound;
@@ -84,7 +84,7 @@ module _ (xs : List ℕ) where
   says_held rows i o h e s a p r u = rw e (says_contents rows i h s a p r u)
 
   -- Its data are normal where the stream is as it is written.
-  row_all : (P : AttributeRow → Type 0) (i : ℕ) (rows : List AttributeRow) (r : AttributeRow) → All P rows → Some r ≡ row_under i rows → P r
+  row_all : (P : AttributeRow → Type 0) (i : ℕ) (rows : List AttributeRow) (r : AttributeRow) → AllByRecursion P rows → Some r ≡ row_under i rows → P r
   row_all P i [] r h e = let z : ◌≡◌ {A = ℕ} 0 1 = cc in absurd (omega arith)
   row_all P i (q ∷ rows) r h e = elim (cases_eq q.id i) [
     | inl d ↦

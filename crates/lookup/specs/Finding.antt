@@ -1,6 +1,6 @@
 -- What a readable stream carries, and what the rows of a target's index say of it.
 use Rattle.std.specs.Prelude.{◌≡◌, ℕ, ◌+◌, ◌<◌, ◌≤◌, List, [], ◌++◌, map, length, take, Some, None, Option}
-use Rattle.std.specs.List.{AllByRecursion as All}
+use Rattle.std.specs.List.{AllByRecursion}
 use Rattle.source.specs.Bytes.{part}
 use Rattle.attribute.specs.Table.{code_page_id, recipients_id, message_properties_id}
 use Rattle.attribute.specs.declared.Attribute.{Attribute}
@@ -30,10 +30,10 @@ page_in xs rows = or_default (told_in as_primary code_page_id xs rows) 0
 
 -- Rows that say what a target holds, whose properties stand under an id.
 pub record Says (xs : List ℕ) (rows : List AttributeRow) (i : ℕ) (h : Holding) : Type 0 where
-  pub sound : All (Standing xs) rows
+  pub sound : AllByRecursion (Standing xs) rows
   pub attributes : (a : Attribute) → Plain a → contents_in xs rows a.id ≡ h.attributes a.id
   pub properties : indexed (list_in i xs rows) ≡ h.properties
-  pub normal : AsWritten xs 6 Version → All (NormalRow xs) rows
+  pub normal : AsWritten xs 6 Version → AllByRecursion (NormalRow xs) rows
 
 -- Those of the message have its primary number and its table too.
 pub record SaysMessage (xs : List ℕ) (rows : List AttributeRow) : Type 0 where

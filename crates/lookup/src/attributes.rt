@@ -1,6 +1,6 @@
 // Where the data of attributes stand.
 ghost use Rattle.std.specs.Prelude.{◌≡◌};
-ghost use Rattle.std.specs.List.{AllByRecursion as All};
+ghost use Rattle.std.specs.List.{AllByRecursion};
 ghost use Rattle.source.specs.Content.{meaning};
 ghost use Rattle.frame.specs.declared.stages.Stage.TheVariants.{Version};
 ghost use Rattle.message.specs.Sameness.{nth, holding, contents_held};
@@ -77,7 +77,7 @@ pub fn attribute_row<S: Source>(
 
 // The primary number that the rows of a message have.
 fn page_number<S: Source>(source: &mut S, rows: &[AttributeRow]) -> u32
-    requires sound { All (Standing (meaning (S.Source.content source.old))) rows.now }
+    requires sound { AllByRecursion (Standing (meaning (S.Source.content source.old))) rows.now }
     ensures same { S.Source.content source.new ≡ S.Source.content source.old }
     ensures value { result ≡ page_in (meaning (S.Source.content source.old)) rows.now }
 {

@@ -1,6 +1,6 @@
 // How many rows and attachments there are, and whether a target is.
 ghost use Rattle.std.specs.Prelude.{◌≡◌, length, is_some};
-ghost use Rattle.std.specs.List.{AllByRecursion as All};
+ghost use Rattle.std.specs.List.{AllByRecursion};
 ghost use Rattle.source.specs.Content.{meaning};
 ghost use Rattle.frame.specs.declared.stages.Stage.TheVariants.{Version};
 ghost use Rattle.message.specs.Sameness.{nth, holding};
@@ -17,7 +17,7 @@ use source::{SOURCE_LIMIT, Source};
 
 // How many lists the table has; none where there is no table.
 fn table_size<S: Source>(source: &mut S, rows: &[AttributeRow]) -> usize
-    requires sound { All (Standing (meaning (S.Source.content source.old))) rows.now }
+    requires sound { AllByRecursion (Standing (meaning (S.Source.content source.old))) rows.now }
     ensures same { S.Source.content source.new ≡ S.Source.content source.old }
     ensures value { result ≡ length (table_in (meaning (S.Source.content source.old)) rows.now) }
 {

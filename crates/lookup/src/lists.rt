@@ -1,6 +1,6 @@
 // Where the properties of targets stand.
 ghost use Rattle.std.specs.Prelude.{◌≡◌, ℕ, ◌≤◌, List, length};
-ghost use Rattle.std.specs.List.{AllByRecursion as All};
+ghost use Rattle.std.specs.List.{AllByRecursion};
 ghost use Rattle.source.specs.Content.{meaning};
 ghost use Rattle.frame.specs.declared.stages.Stage.TheVariants.{Version};
 ghost use Rattle.index.specs.Keys.{key_of};
@@ -47,7 +47,7 @@ fn list_under<S: Source>(
     lent: &mut [PropertyRow],
 ) -> usize
     requires room { list_limit ≤ length lent.old }
-    requires sound { All (Standing (meaning (S.Source.content source.old))) rows.now }
+    requires sound { AllByRecursion (Standing (meaning (S.Source.content source.old))) rows.now }
     requires listed { Natured listing attribute }
     ensures same { S.Source.content source.new ≡ S.Source.content source.old }
     ensures value { Carrying (meaning (S.Source.content source.old)) lent.new result
@@ -87,7 +87,7 @@ fn row_list<S: Source>(
     lent: &mut [PropertyRow],
 ) -> Option<usize>
     requires room { list_limit ≤ length lent.old }
-    requires sound { All (Standing (meaning (S.Source.content source.old))) rows.now }
+    requires sound { AllByRecursion (Standing (meaning (S.Source.content source.old))) rows.now }
     ensures same { S.Source.content source.new ≡ S.Source.content source.old }
     ensures value { CarriesList (meaning (S.Source.content source.old)) lent.new
         (nth (table_in (meaning (S.Source.content source.old)) rows.now) number) result }

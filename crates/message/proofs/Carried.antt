@@ -1,6 +1,6 @@
 -- A message that a stream carries is well-formed.
 use Rattle.std.proofs.Common.{◌≡◌, ℕ, suc, ◌+◌, ◌^◌, ◌<◌, ◌≤◌, Bool, true, false, ◌||◌, eqb, List, [], ◌∷◌, map, length, Some, None, Option, sym, refl, ap, ◌∙◌, inl, inr, arith}
-use Rattle.std.specs.List.{flat_map, AllByRecursion as All}
+use Rattle.std.specs.List.{flat_map, AllByRecursion}
 use Rattle.std.proofs.lemmas.List.{length-map, length-append}
 use Rattle.std.proofs.lemmas.Bool.{eqb-true, or_right, both_ways}
 use Rattle.source.specs.Bytes.{Octets}
@@ -46,7 +46,7 @@ pub record Fine (f : Laid) : Type 0 where
   pub octets : Octets f.bytes
   pub short : length f.bytes ≤ source_limit
 
-pub all_fine : (fs : List Laid) (bs : List ℕ) → Octets bs → length bs ≤ source_limit → All Right fs → run frame_bytes fs bs → All Fine fs
+pub all_fine : (fs : List Laid) (bs : List ℕ) → Octets bs → length bs ≤ source_limit → AllByRecursion Right fs → run frame_bytes fs bs → AllByRecursion Fine fs
 all_fine [] bs o l right g = tt
 all_fine (f ∷ fs) bs o l right g =
     let (oa, ob) = octets_left g.front g.back (rw g.joins at o) in
@@ -97,7 +97,7 @@ told_primary f n fine e m =
     rw (← equal) (page_small f.bytes c fine.octets by_page)
 
 -- The earliest of a kind is of the kind, and is one of the frames.
-earliest_is : (P Q : Laid → Type 0) (fs : List Laid) (f : Laid) → All Q fs → Earliest P fs f → P f × Q f
+earliest_is : (P Q : Laid → Type 0) (fs : List Laid) (f : Laid) → AllByRecursion Q fs → Earliest P fs f → P f × Q f
 earliest_is P Q [] f all e = absurd e
 earliest_is P Q (g ∷ fs) f all (inl (p, same)) = rw same (p, all.0)
 earliest_is P Q (g ∷ fs) f all (inr (no', e)) = earliest_is P Q fs f all.1 e
@@ -106,7 +106,7 @@ earliest_is P Q (g ∷ fs) f all (inr (no', e)) = earliest_is P Q fs f all.1 e
 abbrev Among : List Attribute → Laid → Type 0
 Among ls f = Fine f × (nature f.attribute.rule ≡ plain → has_id f.attribute.id ls ≡ true)
 
-among : (r : Role) (ls : List Attribute) (fs : List Laid) → ((i : ℕ) → has_id i (home r) ≡ true → has_id i ls ≡ true) → All (Is r) fs → All Fine fs → All (Among ls) fs
+among : (r : Role) (ls : List Attribute) (fs : List Laid) → ((i : ℕ) → has_id i (home r) ≡ true → has_id i ls ≡ true) → AllByRecursion (Is r) fs → AllByRecursion Fine fs → AllByRecursion (Among ls) fs
 among r ls [] inside is fine = tt
 among r ls (f ∷ fs) inside is fine = ((fine.0, (λ pl. inside f.attribute.id (at_place r f fine.0.right is.0 pl))), among r ls fs inside is.1 fine.1)
 
@@ -121,7 +121,7 @@ nothing_rows = simp (length-append, length_le) (omega arith)
 empty : ToldBy list_bytes []
 empty = list_from [] (omega arith) tt
 
-module _ (ls : List Attribute) (fs : List Laid) (all : All (Among ls) fs) where
+module _ (ls : List Attribute) (fs : List Laid) (all : AllByRecursion (Among ls) fs) where
   contents_known : (i : ℕ) (c : Contents) → Told (WithId i) contents fs (Some c) → (a : Attribute) × (attribute_of i ≡ Some a) × (has_id i ls ≡ true) × Meets a c
   contents_known i c (f, e, m) =
       let ((id, pl), (fine, has)) = earliest_is (WithId i) (Among ls) fs f all e in
@@ -144,7 +144,7 @@ module _ (ls : List Attribute) (fs : List Laid) (all : All (Among ls) fs) where
       (indexed_list ps (f.bytes, fine.octets, w), omega (arith, indexed_size ps))
 
   rows_well : (o : Option (List (List Property))) → Told (OfNature rows) table fs o →
-      All WellList (map indexed (or_default o [])) × (length (map indexed (or_default o [])) ≤ row_limit) × (length (write_table (map indexed (or_default o []))) < 0x80000000)
+      AllByRecursion WellList (map indexed (or_default o [])) × (length (map indexed (or_default o [])) ≤ row_limit) × (length (write_table (map indexed (or_default o []))) < 0x80000000)
   rows_well None w = (tt, omega arith, nothing_rows)
   rows_well (Some rs) (f, e, m) =
       let (n, (fine, has)) = earliest_is (OfNature rows) (Among ls) fs f all e in
@@ -162,7 +162,7 @@ module _ (ls : List Attribute) (fs : List Laid) (all : All (Among ls) fs) where
 abbrev of_attachments : List Attribute
 of_attachments = rendering_attribute ∷ attachment_attributes
 
-attached_among : (h : Attached) → Begun h → All Fine (attached h) → All (Among of_attachments) (attached h)
+attached_among : (h : Attached) → Begun h → AllByRecursion Fine (attached h) → AllByRecursion (Among of_attachments) (attached h)
 attached_among h begun fine = (
   (among begins_attachment of_attachments (h.rendering ∷ []) (λ i e. one_of (eqb rendering_id i) (has_id i attachment_attributes) e) (begun.0, tt) (fine.0, tt)).0,
   among of_attachment of_attachments h.rest (λ i e. or_right (eqb rendering_id i) _ e) begun.1 fine.1,
@@ -173,15 +173,15 @@ attached_among h begun fine = (
     one_of false b e = absurd (both_ways false refl e)
 
 -- An attachment has a rendering, since a frame of it begins it.
-rendering_told : (h : Attached) → Begun h → All Fine (attached h) → (o : Option Contents) → Told (WithId rendering_id) contents (attached h) o → (c : Contents) × (o ≡ Some c)
+rendering_told : (h : Attached) → Begun h → AllByRecursion Fine (attached h) → (o : Option Contents) → Told (WithId rendering_id) contents (attached h) o → (c : Contents) × (o ≡ Some c)
 rendering_told h begun fine (Some c) w = (c, refl)
 rendering_told h begun fine None w =
     let f = h.rendering in
     let right : Right f = fine.0.right in
     absurd (w.0 (eqb-true _ _ (is_rendering begins_attachment f right begun.0), rendering_plain f right begun.0))
 
-attachments_well : (ls : List Attached) (hs : List Holding) → All Begun ls → All Fine (flat_map attached ls) → Each (λ a h. Holds (attached a) h) ls hs →
-    All WellAttachment hs × (length hs ≡ length ls)
+attachments_well : (ls : List Attached) (hs : List Holding) → AllByRecursion Begun ls → AllByRecursion Fine (flat_map attached ls) → Each (λ a h. Holds (attached a) h) ls hs →
+    AllByRecursion WellAttachment hs × (length hs ≡ length ls)
 attachments_well [] [] begun fine w = (tt, refl)
 attachments_well [] (h ∷ hs) begun fine w = absurd w
 attachments_well (a ∷ ls) [] begun fine w = absurd w
@@ -198,11 +198,11 @@ attachments_well (a ∷ ls) (h ∷ hs) begun fine w =
       ap suc long,
     )
 
-frames_well : (fs : List Laid) (o : InOrder fs) (m : Message) → All Fine fs → Tells fs o m → Well m
+frames_well : (fs : List Laid) (o : InOrder fs) (m : Message) → AllByRecursion Fine fs → Tells fs o m → Well m
 frames_well fs o m all t =
     let own = o.opening ∷ (o.page ∷ o.own) in
     let (fine, late) = all_parts Fine own (flat_map attached o.attachments) (rw o.laid at all) in
-    let within : All (Among message_attributes) o.own = among of_message message_attributes o.own (λ i e. e) o.own_are fine.1.1 in
+    let within : AllByRecursion (Among message_attributes) o.own = among of_message message_attributes o.own (λ i e. e) o.own_are fine.1.1 in
     let (r₁, r₂, r₃) = rows_well message_attributes o.own within t.rowed t.rowed_told in
     let (hs, long) = attachments_well o.attachments m.attachments o.attachments_are late t.attachments_hold in
     let few : length o.attachments ≤ attachment_limit = o.few in

@@ -1,7 +1,7 @@
 -- What the earliest frames tell is what is read of them.
 use Rattle.std.proofs.Common.{◌≡◌, ℕ, Bool, true, false, cond, eqb, ◌⊎◌, List, [], ◌∷◌, ◌++◌, map, Some, None, Option, sym, refl, ap, ◌∙◌, inl, inr, arith}
 use mathlib.Core.Path.{fun_ext}
-use Rattle.std.specs.List.{flat_map, AllByRecursion as All}
+use Rattle.std.specs.List.{flat_map, AllByRecursion}
 use Rattle.std.proofs.lemmas.Bool.{eqb-true, eqb-false, cases_Bool}
 use Rattle.contents.specs.Contents.{Contents, primary_number}
 use Rattle.property.specs.Lists.{Property, indexed}
@@ -28,7 +28,7 @@ unfolding first
 none_first t = refl
 
 module _ {A : Type 0} (t : Entry → Option A) (P : Laid → Type 0) (c : A → Meant) (apart : (a b : A) → c a ≡ c b → a ≡ b) (sorted : (f : Laid) → Right f → Sorted t P c f) where
-  told_first : (fs : List Laid) → All Right fs → Told P c fs (first t (map entry fs))
+  told_first : (fs : List Laid) → AllByRecursion Right fs → Told P c fs (first t (map entry fs))
   told_first [] right = rw (none_first t) tt
   told_first (f ∷ fs) right = go (sorted f right.0) (first t (map entry fs)) refl (told_first fs right.1)
     where
@@ -54,7 +54,7 @@ module _ {A : Type 0} (t : Entry → Option A) (P : Laid → Type 0) (c : A → 
   told_once (g ∷ fs) None (Some b) v (h, inr (no', e), m) = told_once fs None (Some b) v.1 (h, e, m)
   told_once (g ∷ fs) None None v w = refl
 
-  told_is : (fs : List Laid) (o : Option A) → All Right fs → Told P c fs o → first t (map entry fs) ≡ o
+  told_is : (fs : List Laid) (o : Option A) → AllByRecursion Right fs → Told P c fs o → first t (map entry fs) ≡ o
   told_is fs o right w = told_once fs _ o (told_first fs right) w
 
 -- Contents, lists and tables are told by frames of their kind.
@@ -114,7 +114,7 @@ table_apart : (a b : List (List Property)) → table a ≡ table b → a ≡ b
 table_apart a b e = cc
 
 -- What frames hold.
-holds_of : (fs : List Laid) (h : Holding) → All Right fs → ((i : ℕ) → first (contents_under i) (map entry fs) ≡ h.attributes i) → indexed (or_default (first lists (map entry fs)) []) ≡ h.properties → Holds fs h
+holds_of : (fs : List Laid) (h : Holding) → AllByRecursion Right fs → ((i : ℕ) → first (contents_under i) (map entry fs) ≡ h.attributes i) → indexed (or_default (first lists (map entry fs)) []) ≡ h.properties → Holds fs h
 holds_of fs h right at-id at-list = record {
   by_id = λ i. rw (at-id i) at (told_first (contents_under i) (WithId i) contents contents_apart (contents_sorted i) fs right);
   listed = first lists (map entry fs);
@@ -122,13 +122,13 @@ holds_of fs h right at-id at-list = record {
   properties_are = sym at-list;
 }
 
-holds_ids : (fs : List Laid) (h : Holding) → All Right fs → Holds fs h → (i : ℕ) → first (contents_under i) (map entry fs) ≡ h.attributes i
+holds_ids : (fs : List Laid) (h : Holding) → AllByRecursion Right fs → Holds fs h → (i : ℕ) → first (contents_under i) (map entry fs) ≡ h.attributes i
 holds_ids fs h right w i = told_is (contents_under i) (WithId i) contents contents_apart (contents_sorted i) fs (h.attributes i) right (w.by_id i)
 
-holds_list : (fs : List Laid) (h : Holding) → All Right fs → Holds fs h → indexed (or_default (first lists (map entry fs)) []) ≡ h.properties
+holds_list : (fs : List Laid) (h : Holding) → AllByRecursion Right fs → Holds fs h → indexed (or_default (first lists (map entry fs)) []) ≡ h.properties
 holds_list fs h right w = ap (λ o. indexed (or_default o [])) (told_is lists (OfNature properties) list list_apart lists_sorted fs w.listed right w.listed_told) ∙ sym w.properties_are
 
-held : (fs : List Laid) (h : Holding) → All Right fs → holding_of (map entry fs) ≡ h → Holds fs h
+held : (fs : List Laid) (h : Holding) → AllByRecursion Right fs → holding_of (map entry fs) ≡ h → Holds fs h
 unfolding properties_of
 held fs h right e = holds_of fs h right (λ i. ap (λ g. g.attributes i) e) (ap (λ g. g.properties) e)
 
@@ -136,7 +136,7 @@ holding_told : (es : List Entry) (h : Holding) → ((i : ℕ) → first (content
 unfolding properties_of
 holding_told es h at-id at-list = ap (λ g. record { attributes = g; properties = properties_of es }) (fun_ext at-id) ∙ ap (λ l. record { attributes = h.attributes; properties = l }) at-list
 
-each_held : (ls : List Attached) (hs : List Holding) → All RightAttached ls → map holding_of (map (λ a. map entry (attached a)) ls) ≡ hs → Each (λ a h. Holds (attached a) h) ls hs
+each_held : (ls : List Attached) (hs : List Holding) → AllByRecursion RightAttached ls → map holding_of (map (λ a. map entry (attached a)) ls) ≡ hs → Each (λ a h. Holds (attached a) h) ls hs
 each_held [] [] right e = tt
 each_held [] (h ∷ hs) right e = absurd (let z : ◌≡◌ {A = ℕ} 0 1 = cc in omega arith)
 each_held (a ∷ ls) [] right e = absurd (let z : ◌≡◌ {A = ℕ} 0 1 = cc in omega arith)
@@ -145,7 +145,7 @@ each_held (a ∷ ls) (h ∷ hs) right e =
     let more : map holding_of (map (λ a. map entry (attached a)) ls) ≡ hs = cc in
     (held (attached a) h right.0.1 one, each_held ls hs right.1 more)
 
-each_told : (ls : List Attached) (hs : List Holding) → All RightAttached ls → Each (λ a h. Holds (attached a) h) ls hs → map holding_of (map (λ a. map entry (attached a)) ls) ≡ hs
+each_told : (ls : List Attached) (hs : List Holding) → AllByRecursion RightAttached ls → Each (λ a h. Holds (attached a) h) ls hs → map holding_of (map (λ a. map entry (attached a)) ls) ≡ hs
 each_told [] [] right w = refl
 each_told [] (h ∷ hs) right w = absurd w
 each_told (a ∷ ls) [] right w = absurd w
@@ -179,7 +179,7 @@ pub same_message : {p q : ℕ} {h k : Holding} {r s : List (List Property)} {x y
     ◌≡◌ {A = Message} (record { primary = p; own = h; rows = r; attachments = x }) (record { primary = q; own = k; rows = s; attachments = y })
 same_message a b c d = cc
 
-module _ (fs : List Laid) (o : InOrder fs) (right : All Right fs) where
+module _ (fs : List Laid) (o : InOrder fs) (right : AllByRecursion Right fs) where
   targets : ByTarget fs o
   targets = by_target fs o right
 
@@ -189,7 +189,7 @@ module _ (fs : List Laid) (o : InOrder fs) (right : All Right fs) where
   page_is : (n : ℕ) × (o.page.meant ≡ primary n)
   page_is = page_told o.page targets.front_right.1.0 (page_nature o.page targets.front_right.1.0 o.page_is)
 
-  own_right : All Right o.own
+  own_right : AllByRecursion Right o.own
   own_right = targets.front_right.1.1
 
   behind_front : {A : Type 0} (t : Entry → Option A) → ((e : Entry) → e.meant ≡ version → t e ≡ None) → ((e : Entry) (n : ℕ) → e.meant ≡ primary n → t e ≡ None) →

@@ -1,7 +1,7 @@
 -- Forms are read again, are octets, and decide which messages are the same.
 use Rattle.std.proofs.Common.{◌≡◌, ℕ, suc, ◌+◌, ◌-◌, ◌<◌, true, false, ◌⊎◌, ◌↔◌, List, [], ◌∷◌, ◌++◌, map, length, Some, None, Ok, sum_by, sym, refl, ap, ◌∙◌, inl, inr, arith}
 use mathlib.Core.Path.{fun_ext}
-use Rattle.std.specs.List.{flat_map, AllByRecursion as All}
+use Rattle.std.specs.List.{flat_map, AllByRecursion}
 use Rattle.std.proofs.lemmas.List.{length-append}
 use Rattle.std.proofs.lemmas.List.Sums.{sum_by-cons}
 use Rattle.contents.proofs.LittleEndian.{length_le}
@@ -15,7 +15,7 @@ use Rattle.index.specs.Keys.{Key, same_key}
 use Rattle.index.specs.Rows.{has}
 use Rattle.index.specs.SameKeys.{key_itself, same_key_true}
 use Rattle.property.specs.Lists.{Property, same_property}
-use Rattle.message.specs.declared.Target.TheVariants.{Message as to-message, Row as to_row, Attachment as to-attachment}
+use Rattle.message.specs.declared.Target.TheVariants.{Message as to_message, Row as to_row, Attachment as to_attachment}
 use Rattle.stream.specs.Messages.{Holding, Message, message_of, read}
 use Rattle.stream.specs.Reading.{Entry}
 use Rattle.stream.specs.Writing.{entries_in, entry_data, write_entry, written}
@@ -95,7 +95,7 @@ lists_equal (p ∷ ps) (q ∷ qs) a b order at =
         let e : property_in (p ∷ ps) k ≡ property_in (q ∷ qs) k = at k in
         rw (f, f') at e
 
-rows_equal : (rs qs : List (List Property)) → length rs ≡ length qs → All ApartKeys rs → All ApartKeys qs →
+rows_equal : (rs qs : List (List Property)) → length rs ≡ length qs → AllByRecursion ApartKeys rs → AllByRecursion ApartKeys qs →
     ((r : ℕ) (k : Key) → property_held (row_holding (nth rs r)) k ≡ property_held (row_holding (nth qs r)) k) →
     ((r : ℕ) → keys_held (row_holding (nth rs r)) ≡ keys_held (row_holding (nth qs r))) → rs ≡ qs
 rows_equal [] [] l a b at order = refl
@@ -112,7 +112,7 @@ holding_equal h g a b at order under =
     ap (λ f. record { attributes = f; properties = h.properties }) (fun_ext at)
     ∙ ap (λ l. record { attributes = g.attributes; properties = l }) (lists_equal h.properties g.properties a b order under)
 
-holdings_equal : (hs gs : List Holding) → length hs ≡ length gs → All WellAttachment hs → All WellAttachment gs →
+holdings_equal : (hs gs : List Holding) → length hs ≡ length gs → AllByRecursion WellAttachment hs → AllByRecursion WellAttachment gs →
     ((r i : ℕ) → contents_held (nth hs r) i ≡ contents_held (nth gs r) i) →
     ((r : ℕ) (k : Key) → property_held (nth hs r) k ≡ property_held (nth gs r) k) →
     ((r : ℕ) → keys_held (nth hs r) ≡ keys_held (nth gs r)) → hs ≡ gs
@@ -124,18 +124,18 @@ holdings_equal (h ∷ hs) (g ∷ gs) l a b c at order =
     let more : hs ≡ gs = holdings_equal hs gs (omega arith) a.1 b.1 (λ r. c (suc r)) (λ r. at (suc r)) (λ r. order (suc r)) in
     cc
 
-apart_rows : (rs : List (List Property)) → All WellList rs → All ApartKeys rs
+apart_rows : (rs : List (List Property)) → AllByRecursion WellList rs → AllByRecursion ApartKeys rs
 apart_rows rs w = All-weaker WellList ApartKeys (λ ps v. v.1) rs w
 
 -- Well-formed messages that are the same are equal.
 pub same_equal : (m n : Message) → Well m → Well n → Same m n → m ≡ n
 same_equal m n v w s =
     let a : m.primary ≡ n.primary = s.primary in
-    let b : m.own ≡ n.own = holding_equal m.own n.own v.own_well.list_well.1 w.own_well.list_well.1 (s.contents to-message) (s.order to-message) (s.properties to-message) in
+    let b : m.own ≡ n.own = holding_equal m.own n.own v.own_well.list_well.1 w.own_well.list_well.1 (s.contents to_message) (s.order to_message) (s.properties to_message) in
     let c : m.rows ≡ n.rows = rows_equal m.rows n.rows s.rows (apart_rows m.rows v.rows_well) (apart_rows n.rows w.rows_well) (λ r. s.properties (to_row r)) (λ r. s.order (to_row r)) in
     let d : m.attachments ≡ n.attachments =
     holdings_equal m.attachments n.attachments s.attachments v.attachments_well w.attachments_well
-    (λ r. s.contents (to-attachment r)) (λ r. s.properties (to-attachment r)) (λ r. s.order (to-attachment r)) in
+    (λ r. s.contents (to_attachment r)) (λ r. s.properties (to_attachment r)) (λ r. s.order (to_attachment r)) in
     same_message a b c d
 
 pub equal_same : (m n : Message) → m ≡ n → Same m n
@@ -149,7 +149,7 @@ forms_decide m n a b =
       λ s. ap written (same_equal m n v w s),
     )
 
-good_lengths : (es : List Entry) (s : Stage) → Good s es → All (λ e. length (entry_data e.meant) < 0x80000000) es
+good_lengths : (es : List Entry) (s : Stage) → Good s es → AllByRecursion (λ e. length (entry_data e.meant) < 0x80000000) es
 good_lengths [] s g = tt
 good_lengths (e ∷ es) s (a, t, f, go, g) = (f.data_small, good_lengths es t g)
 

@@ -1,6 +1,6 @@
 -- Frames and streams: what the grammar tells is what is read.
 use Rattle.std.proofs.Common.{◌≡◌, ℕ, zero, suc, ◌+◌, ◌-◌, ◌<◌, ◌≤◌, Bool, true, false, ◌&&◌, ◌||◌, eqb, ltb, leb, ◌⊎◌, List, [], ◌∷◌, ◌++◌, map, length, get_or, take, drop, Some, None, Ok, Err, Option, sym, refl, ap, ◌∙◌, inl, inr, add_assoc, arith}
-use Rattle.std.specs.List.{AllByRecursion as All}
+use Rattle.std.specs.List.{AllByRecursion}
 use Rattle.std.proofs.lemmas.List.{append_assoc, length-append, length-drop, drop-drop, drop_all, drop_more, take-append-drop}
 use Rattle.std.proofs.lemmas.Bool.{eqb-true, eq-eqb, ne_eqb, and_parts, cases_Bool, both_ways, le-leb, leb-true, lt-ltb, ltb-true}
 use Rattle.source.specs.declared.refusals.Refusal.{Refusal}
@@ -137,7 +137,7 @@ abbrev pub Allowed : Stage → List Laid → Type 0
 Allowed s [] = may_end s ≡ true
 Allowed s (f ∷ fs) = (t : Stage) × ((p : ℕ) → next_stage s (role f.attribute) p ≡ Ok t) × Allowed t fs
 
-pub entries_back : (fs : List Laid) (fuel : ℕ) (xs : List ℕ) (p : ℕ) (s : Stage) → All Right fs → Allowed s fs → run frame_bytes fs (drop p xs) → p ≤ length xs → length xs < p + fuel → entries_at fuel xs p s ≡ Ok (map entry fs)
+pub entries_back : (fs : List Laid) (fuel : ℕ) (xs : List ℕ) (p : ℕ) (s : Stage) → AllByRecursion Right fs → Allowed s fs → run frame_bytes fs (drop p xs) → p ≤ length xs → length xs < p + fuel → entries_at fuel xs p s ≡ Ok (map entry fs)
 unfolding entries_at entries_from next_frame ◌>>=◌
 entries_back fs zero xs p s ok all w i h = absurd (omega arith)
 entries_back [] (suc fuel) xs p s ok all w i h =
@@ -313,7 +313,7 @@ module _ (xs : List ℕ) (p : ℕ) (s : Stage) (f : Frame) (w : Was xs p s f) wh
 pub record Told (xs : List ℕ) (p : ℕ) (s : Stage) (es : List Entry) : Type 0 where
   pub frames : List Laid
   pub tells : map entry frames ≡ es
-  pub right : All Right frames
+  pub right : AllByRecursion Right frames
   pub allowed : Allowed s frames
   pub bytes : run frame_bytes frames (drop p xs)
 

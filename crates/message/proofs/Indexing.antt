@@ -1,6 +1,6 @@
 -- Lists in which no key stands twice, and what indexing a list leaves.
 use Rattle.std.proofs.Common.{◌≡◌, ℕ, ◌+◌, ◌-◌, ◌≤◌, false, not, List, [], ◌∷◌, ◌++◌, map, length, fold, sym, refl, ◌∙◌, inl, inr, arith}
-use Rattle.std.specs.List.{flat_map, AllByRecursion as All}
+use Rattle.std.specs.List.{flat_map, AllByRecursion}
 use Rattle.std.proofs.lemmas.List.{append_assoc, append-nil, length-append}
 use Rattle.std.proofs.ByRecursion.{All-push}
 use Rattle.std.proofs.lemmas.Bool.{or_parts, or_from, cases_Bool, both_ways}
@@ -29,7 +29,7 @@ indexed_apart ps =
 abbrev adding : List Property → List Property → List Property
 adding done ps = fold (added same_property false) done ps
 
-adding_all : (P : Property → Type 0) (done ps : List Property) → All P done → All P ps → All P (adding done ps)
+adding_all : (P : Property → Type 0) (done ps : List Property) → AllByRecursion P done → AllByRecursion P ps → AllByRecursion P (adding done ps)
 adding_all P done [] a b = a
 adding_all P done (p ∷ ps) a b =
     elim (cases_Bool (has same_property done p)) [
@@ -134,6 +134,6 @@ WellList ps = ToldBy list_bytes ps × ApartKeys ps
 pub indexed_list : (ps : List Property) → ToldBy list_bytes ps → WellList (indexed ps)
 indexed_list ps t = let (all, few) = list_parts ps t in (list_from (indexed ps) (omega (arith, indexed_length ps)) (adding_all (ToldBy property_bytes) [] ps tt all), indexed_apart ps)
 
-pub indexed_rows : (rs : List (List Property)) → All (ToldBy list_bytes) rs → All WellList (map indexed rs)
+pub indexed_rows : (rs : List (List Property)) → AllByRecursion (ToldBy list_bytes) rs → AllByRecursion WellList (map indexed rs)
 indexed_rows [] v = tt
 indexed_rows (r ∷ rs) v = (indexed_list r v.0, indexed_rows rs v.1)

@@ -1,6 +1,6 @@
 -- The entries of a well-formed message, laid as frames, are a stream.
 use Rattle.std.proofs.Common.{◌≡◌, ℕ, ◌+◌, ◌-◌, ◌^◌, ◌<◌, ◌≤◌, true, false, eqb, List, [], ◌∷◌, ◌++◌, map, length, Some, None, Ok, Option, sym, refl, ap, ◌∙◌, arith}
-use Rattle.std.specs.List.{flat_map, AllByRecursion as All}
+use Rattle.std.specs.List.{flat_map, AllByRecursion}
 use Rattle.std.proofs.lemmas.List.{append_assoc, length-append}
 use Rattle.std.proofs.lemmas.Bool.{lt-ltb}
 use Rattle.std.proofs.ByRecursion.{All-append}
@@ -87,7 +87,7 @@ Good s (e ∷ es) = (a : Attribute) × (t : Stage) × Fits a e × ((p : ℕ) →
 pub record LaidAs (s : Stage) (es : List Entry) (bs : List ℕ) : Type 0 where
   pub frames : List Laid
   pub tells : map entry frames ≡ es
-  pub right : All Right frames
+  pub right : AllByRecursion Right frames
   pub allowed : Allowed s frames
   pub bytes : run frame_bytes frames bs
   pub octets : Octets bs
@@ -110,11 +110,11 @@ good_laid (e ∷ es) s (a, t, f, go, g) =
 abbrev pub Placed : Role → Attribute → Type 0
 Placed r a = (attribute_of a.id ≡ Some a) × (a.id < 256 ^ 4) × (role a ≡ r) × (nature a.rule ≡ plain) × (eqb a.id rendering_id ≡ false) × (a.level < 256)
 
-pub message_places : All (Placed of_message) message_attributes
+pub message_places : AllByRecursion (Placed of_message) message_attributes
 unfolding attribute_of
 message_places = ((refl, omega arith, refl, refl, refl, omega arith), ((refl, omega arith, refl, refl, refl, omega arith), ((refl, omega arith, refl, refl, refl, omega arith), ((refl, omega arith, refl, refl, refl, omega arith), ((refl, omega arith, refl, refl, refl, omega arith), ((refl, omega arith, refl, refl, refl, omega arith), ((refl, omega arith, refl, refl, refl, omega arith), ((refl, omega arith, refl, refl, refl, omega arith), ((refl, omega arith, refl, refl, refl, omega arith), ((refl, omega arith, refl, refl, refl, omega arith), ((refl, omega arith, refl, refl, refl, omega arith), ((refl, omega arith, refl, refl, refl, omega arith), ((refl, omega arith, refl, refl, refl, omega arith), ((refl, omega arith, refl, refl, refl, omega arith), ((refl, omega arith, refl, refl, refl, omega arith), ((refl, omega arith, refl, refl, refl, omega arith), ((refl, omega arith, refl, refl, refl, omega arith), ((refl, omega arith, refl, refl, refl, omega arith), tt))))))))))))))))))
 
-pub attachment_places : All (Placed of_attachment) attachment_attributes
+pub attachment_places : AllByRecursion (Placed of_attachment) attachment_attributes
 unfolding attribute_of
 attachment_places = ((refl, omega arith, refl, refl, refl, omega arith), ((refl, omega arith, refl, refl, refl, omega arith), ((refl, omega arith, refl, refl, refl, omega arith), ((refl, omega arith, refl, refl, refl, omega arith), ((refl, omega arith, refl, refl, refl, omega arith), ((refl, omega arith, refl, refl, refl, omega arith), tt))))))
 
@@ -139,10 +139,10 @@ pub record WellAttachment (h : Holding) : Type 0 where
 pub record Well (m : Message) : Type 0 where
   pub primary_small : m.primary < 256 ^ 4
   pub own_well : WellHolding message_attributes m.own
-  pub rows_well : All WellList m.rows
+  pub rows_well : AllByRecursion WellList m.rows
   pub rows_few : length m.rows ≤ row_limit
   pub rows_small : length (write_table m.rows) < 0x80000000
-  pub attachments_well : All WellAttachment m.attachments
+  pub attachments_well : AllByRecursion WellAttachment m.attachments
   pub attachments_few : length m.attachments ≤ attachment_limit
 
 -- Entries that fit.
@@ -189,7 +189,7 @@ module _ (held : ℕ → Option Contents) (s : Stage) (r : Role) (stays : (p : �
   found_good a None rest pl meets g = g
   found_good a (Some c) rest pl meets g = (a, s, contents_fit a.id a c pl.0 pl.5 pl.1 pl.3 (meets c refl), (λ p. rw pl.2 (stays p)), g)
 
-  attributes_good : (ls : List Attribute) (rest : List Entry) → All (Placed r) ls → ((a : Attribute) (c : Contents) → attribute_of a.id ≡ Some a → held a.id ≡ Some c → Meets a c) → Good s rest →
+  attributes_good : (ls : List Attribute) (rest : List Entry) → AllByRecursion (Placed r) ls → ((a : Attribute) (c : Contents) → attribute_of a.id ≡ Some a → held a.id ≡ Some c → Meets a c) → Good s rest →
       Good s (attribute_entries ls held ++ rest)
   unfolding attribute_entries
   attributes_good [] rest pl meets g = g
@@ -203,7 +203,7 @@ meets_of ls held known a c is ec =
     let same : b ≡ a = cc in
     rw same at meets
 
-told_rows : (rs : List (List Property)) → All WellList rs → All (ToldBy list_bytes) rs
+told_rows : (rs : List (List Property)) → AllByRecursion WellList rs → AllByRecursion (ToldBy list_bytes) rs
 told_rows [] w = tt
 told_rows (r ∷ rs) w = (w.0.0, told_rows rs w.1)
 
@@ -246,12 +246,12 @@ attachment_good s k h rest go w g =
     rw (attachment_is h c rest is)
     (rendering_attribute, stage.Attachment k, contents_fit rendering_id rendering_attribute c rendering_is (omega arith) (omega arith) refl (meets rendering_attribute c rendering_is is), go, inner)
 
-late_good : (k : ℕ) (hs : List Holding) → k + length hs ≤ attachment_limit → All WellAttachment hs → Good (stage.Attachment k) (flat_map attachment_entries hs)
+late_good : (k : ℕ) (hs : List Holding) → k + length hs ≤ attachment_limit → AllByRecursion WellAttachment hs → Good (stage.Attachment k) (flat_map attachment_entries hs)
 late_good k [] i w = refl
 late_good k (h ∷ hs) i w =
     attachment_good (stage.Attachment k) (k + 1) h _ (λ p. rw (lt-ltb k attachment_limit (omega arith))) w.0 (late_good (k + 1) hs (omega arith) w.1)
 
-attachments_good : (hs : List Holding) → length hs ≤ attachment_limit → All WellAttachment hs → Good stage.Message (flat_map attachment_entries hs)
+attachments_good : (hs : List Holding) → length hs ≤ attachment_limit → AllByRecursion WellAttachment hs → Good stage.Message (flat_map attachment_entries hs)
 attachments_good [] i w = refl
 attachments_good (h ∷ hs) i w = attachment_good stage.Message 1 h _ (λ p. refl) w.0 (late_good 1 hs (omega arith) w.1)
 

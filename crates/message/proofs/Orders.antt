@@ -1,6 +1,6 @@
 -- Frames that stages allow one behind another are frames in order.
 use Rattle.std.proofs.Common.{◌≡◌, ℕ, ◌+◌, ◌-◌, ◌<◌, ◌≤◌, true, false, ltb, ◌⊎◌, List, [], ◌∷◌, ◌++◌, length, Ok, sym, refl, ap, ◌∙◌, inl, inr, arith}
-use Rattle.std.specs.List.{flat_map, AllByRecursion as All}
+use Rattle.std.specs.List.{flat_map, AllByRecursion}
 use Rattle.std.proofs.lemmas.Bool.{cases_Bool, both_ways, lt-ltb, ltb-true}
 use Rattle.property.proofs.Outcomes.{err_not_ok, ok_same}
 use Rattle.frame.specs.Stages.{Role, opens, names_page, of_message, begins_attachment, of_attachment, role, next_stage, attachment_limit}
@@ -48,8 +48,8 @@ record Parted (r : Role) (k : ℕ) (fs : List Laid) : Type 0 where
   own : List Laid
   attachments : List Attached
   laid : fs ≡ own ++ flat_map attached attachments
-  own_are : All (Is r) own
-  attachments_are : All Begun attachments
+  own_are : AllByRecursion (Is r) own
+  attachments_are : AllByRecursion Begun attachments
   few : k + length attachments ≤ attachment_limit
 
 late : (fs : List Laid) (k : ℕ) → k ≤ attachment_limit → Allowed (stage.Attachment k) fs → Parted of_attachment k fs
@@ -117,20 +117,20 @@ allowed_ordered (v ∷ (c ∷ fs)) (t, go, (u, gu, all)) =
     }
 
 -- And back.
-rest_allowed : (k : ℕ) (rest gs : List Laid) → All (Is of_attachment) rest → Allowed (stage.Attachment k) gs → Allowed (stage.Attachment k) (rest ++ gs)
+rest_allowed : (k : ℕ) (rest gs : List Laid) → AllByRecursion (Is of_attachment) rest → Allowed (stage.Attachment k) gs → Allowed (stage.Attachment k) (rest ++ gs)
 rest_allowed k [] gs a all = all
 rest_allowed k (f ∷ rest) gs a all = (stage.Attachment k, (λ p. rw a.0), rest_allowed k rest gs a.1 all)
 
-late_allowed : (hs : List Attached) (k : ℕ) → All Begun hs → k + length hs ≤ attachment_limit → Allowed (stage.Attachment k) (flat_map attached hs)
+late_allowed : (hs : List Attached) (k : ℕ) → AllByRecursion Begun hs → k + length hs ≤ attachment_limit → Allowed (stage.Attachment k) (flat_map attached hs)
 late_allowed [] k a i = refl
 late_allowed (h ∷ hs) k a i =
     (stage.Attachment (k + 1), (λ p. rw (a.0.0, lt-ltb k attachment_limit (omega arith))), rest_allowed (k + 1) h.rest (flat_map attached hs) a.0.1 (late_allowed hs (k + 1) a.1 (omega arith)))
 
-begun_allowed : (hs : List Attached) → All Begun hs → length hs ≤ attachment_limit → Allowed stage.Message (flat_map attached hs)
+begun_allowed : (hs : List Attached) → AllByRecursion Begun hs → length hs ≤ attachment_limit → Allowed stage.Message (flat_map attached hs)
 begun_allowed [] a i = refl
 begun_allowed (h ∷ hs) a i = (stage.Attachment 1, (λ p. rw a.0.0), rest_allowed 1 h.rest (flat_map attached hs) a.0.1 (late_allowed hs 1 a.1 (omega arith)))
 
-own_allowed : (own gs : List Laid) → All (Is of_message) own → Allowed stage.Message gs → Allowed stage.Message (own ++ gs)
+own_allowed : (own gs : List Laid) → AllByRecursion (Is of_message) own → Allowed stage.Message gs → Allowed stage.Message (own ++ gs)
 own_allowed [] gs a all = all
 own_allowed (f ∷ own) gs a all = (stage.Message, (λ p. rw a.0), own_allowed own gs a.1 all)
 

@@ -1,6 +1,6 @@
 -- Properties are written anew: their normal bytes are of the same grammar, octets, and as many.
 use Rattle.std.proofs.Common.{◌≡◌, ℕ, ◌+◌, ◌-◌, ◌^◌, ◌<◌, ◌≤◌, Bool, true, false, cond, not, eqb, List, [], ◌∷◌, ◌++◌, length, replicate, Some, None, Option, sym, refl, ap, ◌∙◌, arith}
-use Rattle.std.specs.List.{flat_map, AllByRecursion as All}
+use Rattle.std.specs.List.{flat_map, AllByRecursion}
 use Rattle.std.proofs.lemmas.List.{length-append, length-replicate}
 use Rattle.std.proofs.ByRecursion.{All-append}
 use Rattle.source.specs.Bytes.{Octets, le, val}
@@ -147,31 +147,31 @@ table_turns rs bs o (few, g) =
 abbrev pub ToldBy : {A : Type 0} → (A → List ℕ → Type 0) → A → Type 0
 ToldBy G a = (bs : List ℕ) × Octets bs × G a bs
 
-pub run_all : {A : Type 0} (G : A → List ℕ → Type 0) (ls : List A) (bs : List ℕ) → Octets bs → run G ls bs → All (ToldBy G) ls
+pub run_all : {A : Type 0} (G : A → List ℕ → Type 0) (ls : List A) (bs : List ℕ) → Octets bs → run G ls bs → AllByRecursion (ToldBy G) ls
 run_all G [] bs o g = tt
 run_all G (a ∷ ls) bs o g =
     let (oa, ob) = octets_left g.front g.back (rw g.joins at o) in
     ((g.front, oa, g.one), run_all G ls g.back ob g.other)
 
-pub all_run : {A : Type 0} (G : A → List ℕ → Type 0) (ls : List A) → All (ToldBy G) ls → (bs : List ℕ) × Octets bs × run G ls bs
+pub all_run : {A : Type 0} (G : A → List ℕ → Type 0) (ls : List A) → AllByRecursion (ToldBy G) ls → (bs : List ℕ) × Octets bs × run G ls bs
 all_run G [] all = ([], tt, refl)
 all_run G (a ∷ ls) ((b, ob, g), all) =
     let (bs, o, w) = all_run G ls all in
     (b ++ bs, All-append _ b bs ob o, record { front = b; back = bs; joins = refl; one = g; other = w })
 
-counted : {A : Type 0} (G : A → List ℕ → Type 0) (ls : List A) → length ls < 256 ^ 4 → All (ToldBy G) ls → (bs : List ℕ) × Octets bs × (number 4 (length ls) ▷ run G ls) bs
+counted : {A : Type 0} (G : A → List ℕ → Type 0) (ls : List A) → length ls < 256 ^ 4 → AllByRecursion (ToldBy G) ls → (bs : List ℕ) × Octets bs × (number 4 (length ls) ▷ run G ls) bs
 counted G ls few all =
     let (bs, o, w) = all_run G ls all in
     (le 4 (length ls) ++ bs, All-append _ (le 4 (length ls)) bs (octets_le 4 _) o, record { front = le 4 (length ls); back = bs; joins = refl; one = (length_le 4 _, val_le 4 _ few); other = w })
 
-pub list_from : (ps : List Property) → length ps ≤ list_limit → All (ToldBy property_bytes) ps → ToldBy list_bytes ps
+pub list_from : (ps : List Property) → length ps ≤ list_limit → AllByRecursion (ToldBy property_bytes) ps → ToldBy list_bytes ps
 list_from ps few all = let (bs, o, w) = counted property_bytes ps (omega arith) all in (bs, o, (few, w))
 
-pub table_from : (rs : List (List Property)) → length rs ≤ row_limit → All (ToldBy list_bytes) rs → ToldBy table_bytes rs
+pub table_from : (rs : List (List Property)) → length rs ≤ row_limit → AllByRecursion (ToldBy list_bytes) rs → ToldBy table_bytes rs
 table_from rs few all = let (bs, o, w) = counted list_bytes rs (omega arith) all in (bs, o, (few, w))
 
-pub list_parts : (ps : List Property) → ToldBy list_bytes ps → All (ToldBy property_bytes) ps × (length ps ≤ list_limit)
+pub list_parts : (ps : List Property) → ToldBy list_bytes ps → AllByRecursion (ToldBy property_bytes) ps × (length ps ≤ list_limit)
 list_parts ps (bs, o, (few, w)) = let (oa, ob) = octets_left w.front w.back (rw w.joins at o) in (run_all property_bytes ps w.back ob w.other, few)
 
-pub table_parts : (rs : List (List Property)) → ToldBy table_bytes rs → All (ToldBy list_bytes) rs × (length rs ≤ row_limit)
+pub table_parts : (rs : List (List Property)) → ToldBy table_bytes rs → AllByRecursion (ToldBy list_bytes) rs × (length rs ≤ row_limit)
 table_parts rs (bs, o, (few, w)) = let (oa, ob) = octets_left w.front w.back (rw w.joins at o) in (run_all list_bytes rs w.back ob w.other, few)

@@ -1,6 +1,6 @@
 -- The roles of frames, and the entries of each target.
 use Rattle.std.proofs.Common.{◌≡◌, ℕ, Bool, true, false, not, ◌||◌, eqb, List, [], ◌∷◌, ◌++◌, map, Some, sym, refl, ap, ◌∙◌, inl, inr, arith}
-use Rattle.std.specs.List.{flat_map, AllByRecursion as All}
+use Rattle.std.specs.List.{flat_map, AllByRecursion}
 use Rattle.std.proofs.lemmas.List.{append-nil}
 use Rattle.std.proofs.lemmas.Bool.{cases_Bool, both_ways}
 use Rattle.attribute.specs.Table.{attribute_of, attributes, find, has_id, message_attributes, attachment_attributes, rendering_attribute, rendering_id}
@@ -60,10 +60,10 @@ AtHome a =
     (eqb a.id rendering_id ≡ is_begins (role a)) × ((not (is_plain (nature a.rule)) || has_id a.id (home (role a))) ≡ true)
     × (suits (role a) (nature a.rule) ≡ true)
 
-homes : All AtHome attributes
+homes : AllByRecursion AtHome attributes
 homes = ((refl, refl, refl), ((refl, refl, refl), ((refl, refl, refl), ((refl, refl, refl), ((refl, refl, refl), ((refl, refl, refl), ((refl, refl, refl), ((refl, refl, refl), ((refl, refl, refl), ((refl, refl, refl), ((refl, refl, refl), ((refl, refl, refl), ((refl, refl, refl), ((refl, refl, refl), ((refl, refl, refl), ((refl, refl, refl), ((refl, refl, refl), ((refl, refl, refl), ((refl, refl, refl), ((refl, refl, refl), ((refl, refl, refl), ((refl, refl, refl), ((refl, refl, refl), ((refl, refl, refl), ((refl, refl, refl), ((refl, refl, refl), ((refl, refl, refl), ((refl, refl, refl), ((refl, refl, refl), ((refl, refl, refl), tt))))))))))))))))))))))))))))))
 
-find_gives : (P : Attribute → Type 0) (ls : List Attribute) (i : ℕ) (a : Attribute) → All P ls → find ls i ≡ Some a → P a
+find_gives : (P : Attribute → Type 0) (ls : List Attribute) (i : ℕ) (a : Attribute) → AllByRecursion P ls → find ls i ≡ Some a → P a
 find_gives P [] i a all is = absurd (let z : ◌≡◌ {A = ℕ} 0 1 = cc in omega arith)
 find_gives P (d ∷ ls) i a all is =
     elim (cases_Bool (eqb d.id i)) [
@@ -120,33 +120,33 @@ pub page_nature : (f : Laid) → Right f → Is names_page f → nature f.attrib
 page_nature f right is = only_page (nature f.attribute.rule) (suited names_page f right is)
 
 -- Where attachments begin.
-part_own : (fs gs : List Laid) → All (λ f. eqb f.attribute.id rendering_id ≡ false) fs → message_part (map entry (fs ++ gs)) ≡ map entry fs ++ message_part (map entry gs)
+part_own : (fs gs : List Laid) → AllByRecursion (λ f. eqb f.attribute.id rendering_id ≡ false) fs → message_part (map entry (fs ++ gs)) ≡ map entry fs ++ message_part (map entry gs)
 unfolding message_part
 part_own [] gs pl = refl
 part_own (f ∷ fs) gs pl = rw (pl.0, part_own fs gs pl.1)
 
-parts_own : (fs gs : List Laid) → All (λ f. eqb f.attribute.id rendering_id ≡ false) fs → attachment_parts (map entry (fs ++ gs)) ≡ attachment_parts (map entry gs)
+parts_own : (fs gs : List Laid) → AllByRecursion (λ f. eqb f.attribute.id rendering_id ≡ false) fs → attachment_parts (map entry (fs ++ gs)) ≡ attachment_parts (map entry gs)
 unfolding attachment_parts
 parts_own [] gs pl = refl
 parts_own (f ∷ fs) gs pl = rw pl.0 (parts_own fs gs pl.1)
 
 -- An attachment whose frames are right.
 abbrev pub RightAttached : Attached → Type 0
-RightAttached a = Begun a × All Right (attached a)
+RightAttached a = Begun a × AllByRecursion Right (attached a)
 
 abbrev others : List Laid → Type 0
-others fs = All (λ f. eqb f.attribute.id rendering_id ≡ false) fs
+others fs = AllByRecursion (λ f. eqb f.attribute.id rendering_id ≡ false) fs
 
-role_others : (r : Role) (fs : List Laid) → is_begins r ≡ false → All (Is r) fs → All Right fs → others fs
+role_others : (r : Role) (fs : List Laid) → is_begins r ≡ false → AllByRecursion (Is r) fs → AllByRecursion Right fs → others fs
 role_others r [] no' is right = tt
 role_others r (f ∷ fs) no' is right = (is_rendering r f right.0 is.0 ∙ no', role_others r fs no' is.1 right.1)
 
-no_part : (hs : List Attached) → All RightAttached hs → message_part (map entry (flat_map attached hs)) ≡ []
+no_part : (hs : List Attached) → AllByRecursion RightAttached hs → message_part (map entry (flat_map attached hs)) ≡ []
 unfolding message_part
 no_part [] w = refl
 no_part (h ∷ hs) w = rw (is_rendering begins_attachment h.rendering w.0.1.0 w.0.0.0)
 
-parts_are : (hs : List Attached) → All RightAttached hs → attachment_parts (map entry (flat_map attached hs)) ≡ map (λ h. map entry (attached h)) hs
+parts_are : (hs : List Attached) → AllByRecursion RightAttached hs → attachment_parts (map entry (flat_map attached hs)) ≡ map (λ h. map entry (attached h)) hs
 unfolding attachment_parts
 parts_are [] w = refl
 parts_are (h ∷ hs) w =
@@ -160,11 +160,11 @@ parts_are (h ∷ hs) w =
       parts_are hs w.1,
     )
 
-pub all_parts : (P : Laid → Type 0) (fs gs : List Laid) → All P (fs ++ gs) → All P fs × All P gs
+pub all_parts : (P : Laid → Type 0) (fs gs : List Laid) → AllByRecursion P (fs ++ gs) → AllByRecursion P fs × AllByRecursion P gs
 all_parts P [] gs w = (tt, w)
 all_parts P (f ∷ fs) gs w = let (a, b) = all_parts P fs gs w.1 in ((w.0, a), b)
 
-right_attached : (hs : List Attached) → All Begun hs → All Right (flat_map attached hs) → All RightAttached hs
+right_attached : (hs : List Attached) → AllByRecursion Begun hs → AllByRecursion Right (flat_map attached hs) → AllByRecursion RightAttached hs
 right_attached [] b w = tt
 right_attached (h ∷ hs) b w = let (a, c) = all_parts Right (attached h) (flat_map attached hs) w in ((b.0, a), right_attached hs b.1 c)
 
@@ -175,18 +175,18 @@ front fs o = o.opening ∷ (o.page ∷ o.own)
 -- The entries of frames in order, target by target.
 pub record ByTarget (fs : List Laid) (o : InOrder fs) : Type 0 where
   pub whole : fs ≡ front fs o ++ flat_map attached o.attachments
-  pub front_right : All Right (front fs o)
-  pub attached_right : All RightAttached o.attachments
+  pub front_right : AllByRecursion Right (front fs o)
+  pub attached_right : AllByRecursion RightAttached o.attachments
   pub own_part : message_part (map entry fs) ≡ map entry (front fs o)
   pub parts : attachment_parts (map entry fs) ≡ map (λ h. map entry (attached h)) o.attachments
 
-pub by_target : (fs : List Laid) (o : InOrder fs) → All Right fs → ByTarget fs o
+pub by_target : (fs : List Laid) (o : InOrder fs) → AllByRecursion Right fs → ByTarget fs o
 by_target fs o all =
     let hs = o.attachments in
     let own = front fs o in
     let whole : fs ≡ own ++ flat_map attached hs = o.laid in
     let (right, late) = all_parts Right own (flat_map attached hs) (rw whole at all) in
-    let begun : All RightAttached hs = right_attached hs o.attachments_are late in
+    let begun : AllByRecursion RightAttached hs = right_attached hs o.attachments_are late in
     let pl : others own = (
       is_rendering opens o.opening right.0 o.opening_is,
       (is_rendering names_page o.page right.1.0 o.page_is, role_others of_message o.own refl o.own_are right.1.1),

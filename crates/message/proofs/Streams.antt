@@ -1,6 +1,6 @@
 -- Streams are read exactly where the grammar tells them.
 use Rattle.std.proofs.Common.{◌≡◌, ℕ, ◌+◌, ◌-◌, ◌≤◌, true, false, ◌↔◌, List, [], ◌∷◌, ◌++◌, map, length, take, drop, Ok, sym, refl, ap, ◌∙◌, arith}
-use Rattle.std.specs.List.{AllByRecursion as All}
+use Rattle.std.specs.List.{AllByRecursion}
 use Rattle.std.proofs.lemmas.List.{length-take-le, length-drop, take-append-drop, drop-drop}
 use Rattle.std.proofs.lemmas.Bool.{le-leb, leb-true, eqb-true, and_parts, both_ways}
 use Rattle.source.specs.Bytes.{part, val, same_bytes}
@@ -66,7 +66,7 @@ stream_gives xs m e =
       tells = rw whole at (tells told.frames order told.right);
     }
 
-entries_told : (key bs : List ℕ) (fs : List Laid) → length key ≡ 2 → All Right fs → Allowed stage.Version fs → run frame_bytes fs bs → entries_of (signature ++ (key ++ bs)) ≡ Ok (map entry fs)
+entries_told : (key bs : List ℕ) (fs : List Laid) → length key ≡ 2 → AllByRecursion Right fs → Allowed stage.Version fs → run frame_bytes fs bs → entries_of (signature ++ (key ++ bs)) ≡ Ok (map entry fs)
 unfolding entries_of ◌>>=◌
 entries_told key bs fs l right all w =
     let (k, ek, rest, long) = header_back key bs l in

@@ -1,7 +1,7 @@
 -- What the entries of a well-formed message tell is the message.
 use Rattle.std.proofs.Common.{◌≡◌, ℕ, ◌+◌, ◌-◌, Bool, true, false, cond, ◌||◌, eqb, ◌⊎◌, List, [], ◌∷◌, ◌++◌, map, Some, None, Option, sym, refl, ap, ◌∙◌, inl, inr}
 use mathlib.Core.Path.{fun_ext}
-use Rattle.std.specs.List.{flat_map, AllByRecursion as All}
+use Rattle.std.specs.List.{flat_map, AllByRecursion}
 use Rattle.std.proofs.lemmas.List.{append-nil}
 use Rattle.std.proofs.lemmas.Bool.{eqb-true, cases_Bool}
 use Rattle.std.proofs.ByRecursion.{All-append}
@@ -122,7 +122,7 @@ module _ (pre mid : List Entry) (ls : List Attribute) (held : ℕ → Option Con
 
 -- Where attachments begin.
 abbrev Plain : List Entry → Type 0
-Plain es = All (λ f. eqb f.id rendering_id ≡ false) es
+Plain es = AllByRecursion (λ f. eqb f.id rendering_id ≡ false) es
 
 part_append : (es ds : List Entry) → Plain es → message_part (es ++ ds) ≡ es ++ message_part ds
 unfolding message_part
@@ -134,7 +134,7 @@ unfolding attachment_parts
 parts_append [] ds pl = refl
 parts_append (f ∷ es) ds pl = rw pl.0 (parts_append es ds pl.1)
 
-plain_attributes : (r : Role) (ls : List Attribute) (held : ℕ → Option Contents) → All (Placed r) ls → Plain (attribute_entries ls held)
+plain_attributes : (r : Role) (ls : List Attribute) (held : ℕ → Option Contents) → AllByRecursion (Placed r) ls → Plain (attribute_entries ls held)
 unfolding attribute_entries
 plain_attributes r [] held pl = tt
 plain_attributes r (e ∷ ls) held pl = All-append _ (found e.id (held e.id)) _ (at_found (held e.id) pl.0.4) (plain_attributes r ls held pl.1)
@@ -165,12 +165,12 @@ split_attachment h c rest is = rw is
 whole_attachment : (h : Holding) (c : Contents) → h.attributes rendering_id ≡ Some c → one rendering_id (contents c) ∷ behind h ≡ attachment_entries h
 whole_attachment h c is = ap (λ l. one rendering_id (contents c) ∷ l) (sym (append-nil (behind h))) ∙ sym (split_attachment h c [] is) ∙ append-nil (attachment_entries h)
 
-no_part : (hs : List Holding) → All WellAttachment hs → message_part (flat_map attachment_entries hs) ≡ []
+no_part : (hs : List Holding) → AllByRecursion WellAttachment hs → message_part (flat_map attachment_entries hs) ≡ []
 unfolding message_part
 no_part [] w = refl
 no_part (h ∷ hs) w = let (c, is) = w.0.rendering in rw (split_attachment h c (flat_map attachment_entries hs) is)
 
-parts_are : (hs : List Holding) → All WellAttachment hs → attachment_parts (flat_map attachment_entries hs) ≡ map attachment_entries hs
+parts_are : (hs : List Holding) → AllByRecursion WellAttachment hs → attachment_parts (flat_map attachment_entries hs) ≡ map attachment_entries hs
 unfolding attachment_parts
 parts_are [] w = refl
 parts_are (h ∷ hs) w =
@@ -190,7 +190,7 @@ none_lists : first lists [] ≡ None
 unfolding first
 none_lists = refl
 
-holdings_are : (hs : List Holding) → All WellAttachment hs → map holding_of (map attachment_entries hs) ≡ hs
+holdings_are : (hs : List Holding) → AllByRecursion WellAttachment hs → map holding_of (map attachment_entries hs) ≡ hs
 holdings_are [] w = refl
 holdings_are (h ∷ hs) w =
     let one' : holding_of (attachment_entries h) ≡ h =
@@ -243,7 +243,7 @@ unfolding first
 table_tells [] = refl
 table_tells (r ∷ rs) = refl
 
-rows_same : (rs : List (List Property)) → All WellList rs → map indexed rs ≡ rs
+rows_same : (rs : List (List Property)) → AllByRecursion WellList rs → map indexed rs ≡ rs
 rows_same [] w = refl
 rows_same (r ∷ rs) w = rw (indexed_same r w.0.1, rows_same rs w.1)
 

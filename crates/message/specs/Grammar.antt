@@ -1,6 +1,6 @@
 -- The format, said of the bytes: which bytes are a number, a key, a property, a list, a frame, a stream.
 use Rattle.std.specs.Prelude.{◌≡◌, ℕ, ◌-◌, ◌<◌, ◌≤◌, Bool, true, false, ◌⊎◌, ◌↔◌, List, [], ◌∷◌, ◌++◌, map, length, Some, None, Option}
-use Rattle.std.specs.List.{flat_map, AllByRecursion as All}
+use Rattle.std.specs.List.{flat_map, AllByRecursion}
 use Rattle.source.specs.Bytes.{val}
 use Rattle.scan.specs.Texts.{is_text16}
 use Rattle.scan.specs.Scans.{checksum}
@@ -134,7 +134,7 @@ abbrev pub attached : Attached → List Laid
 attached a = a.rendering ∷ a.rest
 
 abbrev pub Begun : Attached → Type 0
-Begun a = Is begins_attachment a.rendering × All (Is of_attachment) a.rest
+Begun a = Is begins_attachment a.rendering × AllByRecursion (Is of_attachment) a.rest
 
 -- The version, the code page, frames of the message, and the attachments, of which there are at most 256.
 pub record InOrder (fs : List Laid) : Type 0 where
@@ -145,8 +145,8 @@ pub record InOrder (fs : List Laid) : Type 0 where
   pub laid : fs ≡ opening ∷ (page ∷ (own ++ flat_map attached attachments))
   pub opening_is : Is opens opening
   pub page_is : Is names_page page
-  pub own_are : All (Is of_message) own
-  pub attachments_are : All Begun attachments
+  pub own_are : AllByRecursion (Is of_message) own
+  pub attachments_are : AllByRecursion Begun attachments
   pub few : length attachments ≤ attachment_limit
 
 -- The earliest frame of a kind.
@@ -157,7 +157,7 @@ Earliest P (g ∷ gs) f = (P g × (f ≡ g)) ⊎ ((P g → ⊥) × Earliest P gs
 -- What the earliest frame of a kind means; nothing where there is none.
 abbrev pub Told : {A : Type 0} → (Laid → Type 0) → (A → Meant) → List Laid → Option A → Type 0
 Told P as-meant fs (Some a) = (f : Laid) × Earliest P fs f × (f.meant ≡ as-meant a)
-Told P as-meant fs None = All (λ f. P f → ⊥) fs
+Told P as-meant fs None = AllByRecursion (λ f. P f → ⊥) fs
 
 -- Frames of contents with an id, and frames of a nature.
 abbrev pub WithId : ℕ → Laid → Type 0
@@ -194,7 +194,7 @@ pub record Tells (fs : List Laid) (o : InOrder fs) (m : Message) : Type 0 where
 pub record Stream (xs : List ℕ) (m : Message) : Type 0 where
   pub frames : List Laid
   pub bytes : (these signature ▷ any 2 ▷ run frame_bytes frames) xs
-  pub right : All Right frames
+  pub right : AllByRecursion Right frames
   pub order : InOrder frames
   pub tells : Tells frames order m
 

@@ -1,6 +1,6 @@
 -- What written forms promise.
 use Rattle.std.specs.Prelude.{◌≡◌, ◌+◌, ◌<◌, ◌↔◌, length, sum_by}
-use Rattle.std.specs.List.{AllByRecursion as All}
+use Rattle.std.specs.List.{AllByRecursion}
 use Rattle.source.specs.Bytes.{Octets}
 use Rattle.stream.specs.Messages.{Message}
 use Rattle.message.specs.Sameness.{Same, Carries, IsMessage}
@@ -17,6 +17,6 @@ pub record FormsRead : Type 0 where
   pub fixed : (m n : Message) → IsMessage m → Carries (written m) n → written n ≡ written m
   pub octets : (m : Message) → IsMessage m → Octets (written m)
   -- The data of each frame fit the field of their length, which has no sign.
-  pub lengths : (m : Message) → IsMessage m → All (λ e. length (entry_data e.meant) < 0x80000000) (entries_in m)
+  pub lengths : (m : Message) → IsMessage m → AllByRecursion (λ e. length (entry_data e.meant) < 0x80000000) (entries_in m)
   -- A form has a header of six bytes, and eleven bytes around the data of each frame.
   pub size : (m : Message) → length (written m) ≡ 6 + sum_by (λ e. 11 + length (entry_data e.meant)) (entries_in m)

@@ -6,7 +6,7 @@ use Rattle.contents.specs.Contents.{Contents}
 use Rattle.index.specs.Keys.{Key, same_key}
 use Rattle.property.specs.Lists.{Property}
 use Rattle.message.specs.declared.Target.{Target}
-use Rattle.message.specs.declared.Target.TheVariants.{Message as to-message, Row as to_row, Attachment as to-attachment}
+use Rattle.message.specs.declared.Target.TheVariants.{Message as to_message, Row as to_row, Attachment as to_attachment}
 use Rattle.stream.specs.Messages.{Message, Holding, read}
 
 abbrev pub nth : {A : Type 0} → List A → ℕ → Option A
@@ -20,9 +20,9 @@ row_holding None = None
 row_holding (Some ps) = Some (record { attributes = λ i. None; properties = ps })
 
 abbrev pub holding : Message → Target → Option Holding
-holding m to-message = Some m.own
+holding m to_message = Some m.own
 holding m (to_row r) = row_holding (nth m.rows r)
-holding m (to-attachment k) = nth m.attachments k
+holding m (to_attachment k) = nth m.attachments k
 
 abbrev pub contents_held : Option Holding → ℕ → Option Contents
 contents_held None i = None

@@ -9,10 +9,10 @@ use Rattle.index.specs.SameKeys.{same_key_true}
 use Rattle.property.specs.Lists.{Property}
 use Rattle.stream.specs.Messages.{Message, Holding}
 use Rattle.message.specs.declared.Target.{Target}
-use Rattle.message.specs.declared.Target.TheVariants.{Message as to-message}
+use Rattle.message.specs.declared.Target.TheVariants.{Message as to_message}
 use Rattle.message.specs.Sameness.{holding, keys_held, keys_at}
 use Rattle.editing.specs.Edits.{given_property, given_key}
-use Rattle.promise.specs.Commuting.{Item, attribute, property, Touch, put_contents as touch-put, put_value, drop_contents, drop_value, under_key, of_property, item, Given, lacks, same_target, brings}
+use Rattle.promise.specs.Commuting.{Item, attribute, property, Touch, put_contents as touch_put, put_value, drop_contents, drop_value, under_key, of_property, item, Given, lacks, same_target, brings}
 use Rattle.promise.proofs.Orders.{Mark, adds, removes, nothing, is_new, Off, Differ, OneSets}
 use Rattle.promise.proofs.Touches.{contents_by, primary_by, put_of, drop_of, property_by, mark_put, mark_drop, mark}
 use Rattle.promise.proofs.Holdings.{same_target_true}
@@ -23,7 +23,7 @@ no_some : {A : Type 0} {B : Type 0} (a : A) → ◌≡◌ {A = Option A} None (S
 no_some a e = absurd (let z : ◌≡◌ {A = ℕ} 0 1 = cc in omega arith)
 
 pub contents_item : (t : Target) (i : ℕ) (g : Touch) (v : Option Contents) → contents_by t i g ≡ Some v → item g ≡ Some (attribute t i)
-contents_item t i (touch-put u j xs) v e =
+contents_item t i (touch_put u j xs) v e =
     elim (cases_Bool (same_target t u && (eqb j i && not (eqb j code_page_id)))) [
       | inl y ↦
           let (a, b) = and_parts (same_target t u) _ y in
@@ -39,10 +39,10 @@ contents_item t i (drop_contents u j) v e =
     ]
 contents_item t i (drop_value u xs) v e = no_some v e
 
-pub primary_item : (g : Touch) (v : ℕ) → primary_by g ≡ Some v → item g ≡ Some (attribute to-message code_page_id)
-primary_item (touch-put u j xs) v e =
-    elim (cases_Bool (same_target to-message u && eqb j code_page_id)) [
-      | inl y ↦ let (a, b) = and_parts (same_target to-message u) _ y in rw (← same_target_true to-message u a, eqb-true j code_page_id b)
+pub primary_item : (g : Touch) (v : ℕ) → primary_by g ≡ Some v → item g ≡ Some (attribute to_message code_page_id)
+primary_item (touch_put u j xs) v e =
+    elim (cases_Bool (same_target to_message u && eqb j code_page_id)) [
+      | inl y ↦ let (a, b) = and_parts (same_target to_message u) _ y in rw (← same_target_true to_message u a, eqb-true j code_page_id b)
       | inr n ↦ no_some v (rw n at e)
     ]
 primary_item (put_value u xs) v e = no_some v e
@@ -66,7 +66,7 @@ drop_item t k (Ok l) v e =
 drop_item t k (Err x) v e = no_some v e
 
 pub value_item : (t : Target) (k : Key) (g : Touch) (v : Option Property) → property_by t k g ≡ Some v → item g ≡ Some (property t k)
-value_item t k (touch-put u j xs) v e = no_some v e
+value_item t k (touch_put u j xs) v e = no_some v e
 value_item t k (put_value u xs) v e =
     elim (cases_Bool (same_target t u)) [
       | inl y ↦ rw (same_target_true t u y) (put_item u k (given_property xs) v (rw y at e))
@@ -94,7 +94,7 @@ mark_drop_item t k (Ok l) e = let same : l ≡ k = cc in rw same
 mark_drop_item t k (Err x) e = no_some k e
 
 mark_item : (t : Target) (k : Key) (g : Touch) → marked (mark t g) ≡ Some k → item g ≡ Some (property t k)
-mark_item t k (touch-put u j xs) e = no_some k e
+mark_item t k (touch_put u j xs) e = no_some k e
 mark_item t k (put_value u xs) e =
     elim (cases_Bool (same_target t u)) [
       | inl y ↦ rw (same_target_true t u y) (mark_put_item u k (given_property xs) (rw y at e))
@@ -141,7 +141,7 @@ differ t g h d = go (mark t g.touch) refl
 
 -- The puts that bring new keys are those whose marks are new.
 pub brings_new : (m : Message) (t : Target) (h : Holding) → holding m t ≡ Some h → (g : Touch) → brings m t g ≡ is_new (mark t g) (keys_at m t)
-brings_new m t h is (touch-put u j xs) = refl
+brings_new m t h is (touch_put u j xs) = refl
 brings_new m t h is (put_value u xs) =
     elim (cases_Bool (same_target t u)) [
       | inl y ↦ rw y (there y)

@@ -1,6 +1,6 @@
 -- Lists in another order, and what does not hang on the order.
 use Rattle.std.proofs.Common.{◌≡◌, Bool, true, false, cond, not, ◌||◌, ◌⊎◌, List, [], ◌∷◌, ◌++◌, map, None, Option, sym, refl, ap, ◌∙◌, inl, inr}
-use Rattle.std.specs.List.{flat_map, AllByRecursion as All}
+use Rattle.std.specs.List.{flat_map, AllByRecursion}
 use Rattle.std.proofs.lemmas.List.{append_assoc, append-nil}
 use Rattle.std.proofs.lemmas.Bool.{cases_Bool}
 use Rattle.index.specs.Keys.{Key, same_key}
@@ -9,7 +9,7 @@ use Rattle.stream.specs.Messages.{or_default}
 use Rattle.promise.specs.Commuting.{Reordered, none, skip, swap, join, Among, Distinct, kept}
 
 -- What holds of each, and of each two.
-pub all_reordered : {A : Type 0} (P : A → Type 0) (xs ys : List A) → Reordered xs ys → All P xs → All P ys
+pub all_reordered : {A : Type 0} (P : A → Type 0) (xs ys : List A) → Reordered xs ys → AllByRecursion P xs → AllByRecursion P ys
 all_reordered P _ _ none a = a
 all_reordered P _ _ (skip {xs = xs} {ys = ys} r) a = (a.0, all_reordered P xs ys r a.1)
 all_reordered P _ _ swap a = (a.1.0, (a.0, a.1.1))
@@ -17,7 +17,7 @@ all_reordered P _ _ (join {xs = xs} {ys = ys} {zs = zs} r s) a = all_reordered P
 
 abbrev pub Pairwise : {A : Type 0} → (A → A → Type 0) → List A → Type 0
 Pairwise R [] = Unit {0}
-Pairwise R (x ∷ xs) = All (R x) xs × Pairwise R xs
+Pairwise R (x ∷ xs) = AllByRecursion (R x) xs × Pairwise R xs
 
 pub pairwise_reordered : {A : Type 0} (R : A → A → Type 0) → ((x y : A) → R x y → R y x) → (xs ys : List A) → Reordered xs ys → Pairwise R xs → Pairwise R ys
 pairwise_reordered R s _ _ none a = a
@@ -53,7 +53,7 @@ pub distinct_pairs : {A B : Type 0} (f : A → B) (R : A → A → Type 0) → (
 distinct_pairs {A} f R g [] a = tt
 distinct_pairs {A} f R g (x ∷ xs) a = (each xs a.0, distinct_pairs f R g xs a.1)
   where
-    each : (ys : List A) → (Among (f x) (map f ys) → ⊥) → All (R x) ys
+    each : (ys : List A) → (Among (f x) (map f ys) → ⊥) → AllByRecursion (R x) ys
     each [] n = tt
     each (y ∷ ys) n = (g x y (λ e. n (inl e)), each ys (λ i. n (inr i)))
 
@@ -162,7 +162,7 @@ less_push (adds l) k ks o = refl
 less_push (removes l) k ks o = removed_push l k ks o
 less_push nothing k ks o = refl
 
-all_less_push : {A : Type 0} (f : A → Mark) (xs : List A) (k : Key) (ks : List Key) → All (λ x. Off k (f x)) xs → all_less f xs (ks ++ k ∷ []) ≡ all_less f xs ks ++ k ∷ []
+all_less_push : {A : Type 0} (f : A → Mark) (xs : List A) (k : Key) (ks : List Key) → AllByRecursion (λ x. Off k (f x)) xs → all_less f xs (ks ++ k ∷ []) ≡ all_less f xs ks ++ k ∷ []
 all_less_push f [] k ks o = refl
 all_less_push f (x ∷ xs) k ks o = ap (all_less f xs) (less_push (f x) k ks o.0) ∙ all_less_push f xs k (less (f x) ks) o.1
 
@@ -176,11 +176,11 @@ news_removed (adds l) k ks o = rw (has_removed l k ks o)
 news_removed (removes l) k ks o = refl
 news_removed nothing k ks o = refl
 
-all_news_push : {A : Type 0} (f : A → Mark) (xs : List A) (k : Key) (ks : List Key) → All (λ x. Off k (f x)) xs → all_news f xs (ks ++ k ∷ []) ≡ all_news f xs ks
+all_news_push : {A : Type 0} (f : A → Mark) (xs : List A) (k : Key) (ks : List Key) → AllByRecursion (λ x. Off k (f x)) xs → all_news f xs (ks ++ k ∷ []) ≡ all_news f xs ks
 all_news_push f [] k ks o = refl
 all_news_push f (x ∷ xs) k ks o = rw (news_push (f x) k ks o.0, all_news_push f xs k ks o.1)
 
-all_news_removed : {A : Type 0} (f : A → Mark) (xs : List A) (k : Key) (ks : List Key) → All (λ x. Off k (f x)) xs → all_news f xs (removed k ks) ≡ all_news f xs ks
+all_news_removed : {A : Type 0} (f : A → Mark) (xs : List A) (k : Key) (ks : List Key) → AllByRecursion (λ x. Off k (f x)) xs → all_news f xs (removed k ks) ≡ all_news f xs ks
 all_news_removed f [] k ks o = refl
 all_news_removed f (x ∷ xs) k ks o = rw (news_removed (f x) k ks o.0, all_news_removed f xs k ks o.1)
 
@@ -189,7 +189,7 @@ pub keys_after : {A : Type 0} (f : A → Mark) (xs : List A) (ks : List Key) →
 keys_after f [] ks p = sym (append-nil ks)
 keys_after {A} f (x ∷ xs) ks p = go (f x) p.0 (λ ls. keys_after f xs ls p.1)
   where
-    go : (a : Mark) → All (λ y. Differ a (f y)) xs → ((ls : List Key) → all_moved f xs ls ≡ all_less f xs ls ++ all_news f xs ls) →
+    go : (a : Mark) → AllByRecursion (λ y. Differ a (f y)) xs → ((ls : List Key) → all_moved f xs ls ≡ all_less f xs ls ++ all_news f xs ls) →
         all_moved f xs (moved a ks) ≡ all_less f xs (less a ks) ++ (news a ks ++ all_news f xs ks)
     go (adds k) o ih =
         elim (cases_Bool (has k ks)) [

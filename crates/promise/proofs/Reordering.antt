@@ -1,12 +1,12 @@
 -- Puts and drops of different items, in another order.
 use Rattle.std.proofs.Common.{◌≡◌, true, false, List, [], ◌∷◌, ◌++◌, map, length, is_some, Some, None, Ok, Option, sym, refl, ap, ◌∙◌, arith}
-use Rattle.std.specs.List.{flat_map, AllByRecursion as All}
+use Rattle.std.specs.List.{flat_map, AllByRecursion}
 use Rattle.std.proofs.lemmas.Bool.{both_ways}
 use Rattle.attribute.specs.Table.{code_page_id}
 use Rattle.stream.specs.Messages.{Message, Holding, or_default}
 use Rattle.stream.specs.Writing.{written}
 use Rattle.message.specs.declared.Target.{Target}
-use Rattle.message.specs.declared.Target.TheVariants.{Message as to-message}
+use Rattle.message.specs.declared.Target.TheVariants.{Message as to_message}
 use Rattle.message.specs.Sameness.{holding, Same, keys_held, contents_at, property_under, keys_at}
 use Rattle.message.proofs.Laying.{Well}
 use Rattle.message.proofs.Forms.{well, same_equal}
@@ -51,7 +51,7 @@ pairwise_weaker : {A : Type 0} (R S : A → A → Type 0) → ((x y : A) → R x
 pairwise_weaker R S f [] p = tt
 pairwise_weaker {A} R S f (x ∷ xs) p = (each xs p.0, pairwise_weaker R S f xs p.1)
   where
-    each : (ys : List A) → All (R x) ys → All (S x) ys
+    each : (ys : List A) → AllByRecursion (R x) ys → AllByRecursion (S x) ys
     each [] a = tt
     each (y ∷ ys) a = (f x y a.0, each ys a.1)
 
@@ -64,7 +64,7 @@ runs_same : (m a b : Message) (gs hs : List Given) → Well m → Runs m gs a �
     ((t : Target) → kept (λ g. brings m t g.touch) gs ≡ kept (λ g. brings m t g.touch) hs) → Same a b
 runs_same m a b gs hs w r s o apart order =
     record {
-      primary = settled (λ x. x.primary) primary_by (attribute to-message code_page_id) primary_item (λ g x y p. p.primary);
+      primary = settled (λ x. x.primary) primary_by (attribute to_message code_page_id) primary_item (λ g x y p. p.primary);
       rows = run_same (λ x. length x.rows) (λ g x y p. p.rows) gs m a w r ∙ sym (run_same (λ x. length x.rows) (λ g x y p. p.rows) hs m b w s);
       attachments = run_same (λ x. length x.attachments) (λ g x y p. p.attachments) gs m a w r ∙ sym (run_same (λ x. length x.attachments) (λ g x y p. p.attachments) hs m b w s);
       contents = λ t i. settled (λ x. contents_at x t i) (contents_by t i) (attribute t i) (contents_item t i) (λ g x y p. p.contents t i);
@@ -112,7 +112,7 @@ ended (g ∷ gs) n d = left_by (Ok (written n)) d
 abbrev OctetsGiven : Given → Type 0
 OctetsGiven g = GivenOctets (as_edit g.touch)
 
-possible_all : (gs : List Given) → AllPossible (steps gs) → All OctetsGiven gs
+possible_all : (gs : List Given) → AllPossible (steps gs) → AllByRecursion OctetsGiven gs
 possible_all [] p = tt
 possible_all (g ∷ gs) p = (p.0, possible_all gs p.1)
 
@@ -126,7 +126,7 @@ record Ran (gs : List Given) (m : Message) (d : State) (n : Message) : Type 0 wh
   ran : Runs m gs n
   leaves_it : after (steps gs) d ≡ ended gs n d
 
-accepted_run : (gs : List Given) (m : Message) (d : State) → Well m → form d ≡ written m → All OctetsGiven gs → AllAccepted (steps gs) d → (n : Message) × Ran gs m d n
+accepted_run : (gs : List Given) (m : Message) (d : State) → Well m → form d ≡ written m → AllByRecursion OctetsGiven gs → AllAccepted (steps gs) d → (n : Message) × Ran gs m d n
 accepted_run [] m d w is p a = (m, record { ran = refl; leaves_it = refl })
 accepted_run (g ∷ gs) m d w is p ((f, e), rest) =
     let (k, changed, fits) = edited_ok g.memory d (as_edit g.touch) m f w is e in

@@ -14,7 +14,7 @@ use Rattle.index.specs.Keys.{Key, same_key}
 use Rattle.property.specs.Lists.{Property}
 use Rattle.stream.specs.Messages.{Message, Holding, or_default}
 use Rattle.message.specs.declared.Target.{Target}
-use Rattle.message.specs.declared.Target.TheVariants.{Message as to-message, Row as to_row, Attachment as to-attachment}
+use Rattle.message.specs.declared.Target.TheVariants.{Message as to_message, Row as to_row, Attachment as to_attachment}
 use Rattle.message.specs.Sameness.{holding, property_in, contents_held, property_held, keys_held, contents_at, property_under, keys_at}
 use Rattle.message.proofs.Outcomes.{bind_ok, need_ok}
 use Rattle.message.proofs.FrameReads.{id_of}
@@ -23,7 +23,7 @@ use Rattle.editing.specs.Slots.{without_id, put_contents, has_key, put_in, witho
 use Rattle.editing.specs.Targets.{with_holding, with_attributes, with_properties, target_level, may_put, may_drop, attribute_for}
 use Rattle.editing.specs.Edits.{put_attribute, put_property, drop_attribute, drop_property, given_contents, given_property, given_key, set_primary, put_meaning, change}
 use Rattle.editing.proofs.Givens.{given_then, contents_ok, attribute_ok, passes, attribute_passes}
-use Rattle.promise.specs.Commuting.{same_target, Touch, put_contents as touch-put, put_value, drop_contents, drop_value, as_edit}
+use Rattle.promise.specs.Commuting.{same_target, Touch, put_contents as touch_put, put_value, drop_contents, drop_value, as_edit}
 use Rattle.promise.proofs.Orders.{Mark, adds, removes, nothing, has, moved}
 use Rattle.promise.proofs.Holdings.{same_target_true, target_same, Room, room_held, held_there, held_other, rows_kept, attachments_kept, primary_kept, held_apart, room_properties, room_level, own_level}
 use Rattle.promise.proofs.Keyed.{keys, put_keys, without_keys, put_under, without_under}
@@ -73,13 +73,13 @@ abbrev pub value_of : ℕ → List ℕ → Option Contents
 value_of i xs = then (attribute_of i) (λ e. means e.rule xs)
 
 abbrev pub contents_by : Target → ℕ → Touch → Option (Option Contents)
-contents_by t j (touch-put u i xs) = cond (same_target t u && (eqb i j && not (eqb i code_page_id))) (also (value_of i xs) (λ c. Some c)) None
+contents_by t j (touch_put u i xs) = cond (same_target t u && (eqb i j && not (eqb i code_page_id))) (also (value_of i xs) (λ c. Some c)) None
 contents_by t j (put_value u xs) = None
 contents_by t j (drop_contents u i) = cond (same_target t u && eqb i j) (Some None) None
 contents_by t j (drop_value u xs) = None
 
 abbrev pub primary_by : Touch → Option ℕ
-primary_by (touch-put u i xs) = cond (same_target to-message u && eqb i code_page_id) (also (value_of i xs) primary_number) None
+primary_by (touch_put u i xs) = cond (same_target to_message u && eqb i code_page_id) (also (value_of i xs) primary_number) None
 primary_by (put_value u xs) = None
 primary_by (drop_contents u i) = None
 primary_by (drop_value u xs) = None
@@ -93,7 +93,7 @@ drop_of k (Ok l) = cond (same_key l k) (Some None) None
 drop_of k (Err e) = None
 
 abbrev pub property_by : Target → Key → Touch → Option (Option Property)
-property_by t k (touch-put u i xs) = None
+property_by t k (touch_put u i xs) = None
 property_by t k (put_value u xs) = cond (same_target t u) (put_of k (given_property xs)) None
 property_by t k (drop_contents u i) = None
 property_by t k (drop_value u xs) = cond (same_target t u) (drop_of k (given_key xs)) None
@@ -107,7 +107,7 @@ mark_drop (Ok k) = removes k
 mark_drop (Err e) = nothing
 
 abbrev pub mark : Target → Touch → Mark
-mark t (touch-put u i xs) = nothing
+mark t (touch_put u i xs) = nothing
 mark t (put_value u xs) = cond (same_target t u) (mark_put (given_property xs)) nothing
 mark t (drop_contents u i) = nothing
 mark t (drop_value u xs) = cond (same_target t u) (mark_drop (given_key xs)) nothing
@@ -242,9 +242,9 @@ drop_attribute_steps m n u i e =
 
 put_plain_made : (m n : Message) (u : Target) (i : ℕ) (xs : List ℕ) (h : Holding) (c : Contents) → holding m u ≡ Some h → value_of i xs ≡ Some c → eqb i code_page_id ≡ false →
     Room u (with_attributes h (put_contents h.attributes i c)) →
-    with_holding m u (with_attributes h (put_contents h.attributes i c)) ≡ n → Stepped (touch-put u i xs) m n
+    with_holding m u (with_attributes h (put_contents h.attributes i c)) ≡ n → Stepped (touch_put u i xs) m n
 put_plain_made m n u i xs h c is value other room made =
-    rw (← made) (stepped (touch-put u i xs) m u h (with_attributes h (put_contents h.attributes i c)) is room none_set (record {
+    rw (← made) (stepped (touch_put u i xs) m u h (with_attributes h (put_contents h.attributes i c)) is room none_set (record {
       attributes_there = λ j. set_there j;
       attributes_else = λ t j d. rw d;
       properties_there = λ l. refl;
@@ -253,14 +253,14 @@ put_plain_made m n u i xs h c is value other room made =
       keys_else = λ t d. refl;
     }))
   where
-    none_set : primary_by (touch-put u i xs) ≡ None
-    none_set = rw (and_right (same_target to-message u) (eqb i code_page_id) other)
+    none_set : primary_by (touch_put u i xs) ≡ None
+    none_set = rw (and_right (same_target to_message u) (eqb i code_page_id) other)
 
-    set_there : (j : ℕ) → put_contents h.attributes i c j ≡ or_default (contents_by u j (touch-put u i xs)) (h.attributes j)
+    set_there : (j : ℕ) → put_contents h.attributes i c j ≡ or_default (contents_by u j (touch_put u i xs)) (h.attributes j)
     set_there j = rw (target_same u, other, value) (chosen_and (eqb i j) (Some c) (h.attributes j))
 
-put_page_made : (m n : Message) (u : Target) (i : ℕ) (xs : List ℕ) (c : Contents) → value_of i xs ≡ Some c → eqb i code_page_id ≡ true → u ≡ to-message →
-    set_primary m (primary_number c) ≡ n → Stepped (touch-put u i xs) m n
+put_page_made : (m n : Message) (u : Target) (i : ℕ) (xs : List ℕ) (c : Contents) → value_of i xs ≡ Some c → eqb i code_page_id ≡ true → u ≡ to_message →
+    set_primary m (primary_number c) ≡ n → Stepped (touch_put u i xs) m n
 put_page_made m n u i xs c value page own made =
     rw (← made) (record {
       primary = rw (own, page, value) refl;
@@ -273,9 +273,9 @@ put_page_made m n u i xs c value page own made =
     })
   where
     same_held : (t : Target) → holding (set_primary m (primary_number c)) t ≡ holding m t
-    same_held to-message = refl
+    same_held to_message = refl
     same_held (to_row r) = refl
-    same_held (to-attachment k) = refl
+    same_held (to_attachment k) = refl
 
     same_properties : (t : Target) (l : Key) → property_under (set_primary m (primary_number c)) t l ≡ property_under m t l
     same_properties t l = ap (λ o. property_held o l) (same_held t)
@@ -290,7 +290,7 @@ put_page_made m n u i xs c value page own made =
     same_there t = ap is_some (same_held t)
 
 put_attribute_made : (m n : Message) (u : Target) (i : ℕ) (xs : List ℕ) (h : Holding) (f : Attribute) (c : Contents) → holding m u ≡ Some h → f.level ≡ target_level u → f.id ≡ i →
-    value_of i xs ≡ Some c → good f ≡ true → put_meaning m u f c h f.rule ≡ n → Stepped (touch-put u i xs) m n
+    value_of i xs ≡ Some c → good f ≡ true → put_meaning m u f c h f.rule ≡ n → Stepped (touch_put u i xs) m n
 put_attribute_made m n u i xs h f c is level id value ok made =
     let (low, rest) = and_parts (not (eqb f.level 0)) _ ok in
     go low rest (cases_Bool (is_page f.rule)) (sym (meaning_put m u f.id f.level f.rule c h) ∙ made)
@@ -299,7 +299,7 @@ put_attribute_made m n u i xs h f c is level id value ok made =
         cond (is_page f.rule) (eqb f.id code_page_id && eqb f.level 1) (not (eqb f.id code_page_id)) ≡ true →
         (is_page f.rule ≡ true) ⊎ (is_page f.rule ≡ false) →
         cond (is_page f.rule) (set_primary m (primary_number c)) (with_holding m u (with_attributes h (put_contents h.attributes f.id c))) ≡ n →
-        Stepped (touch-put u i xs) m n
+        Stepped (touch_put u i xs) m n
     go low rest (inl page) made =
         let both : (eqb f.id code_page_id && eqb f.level 1) ≡ true = rw page at rest in
         let (a, b) = and_parts _ _ both in
@@ -314,7 +314,7 @@ put_attribute_made m n u i xs h f c is level id value ok made =
         not_not true e = absurd (both_ways false refl e)
         not_not false e = refl
 
-put_attribute_steps : (m n : Message) (u : Target) (i : ℕ) (xs : List ℕ) → change (put_attribute u i xs) m ≡ Ok n → Stepped (touch-put u i xs) m n
+put_attribute_steps : (m n : Message) (u : Target) (i : ℕ) (xs : List ℕ) → change (put_attribute u i xs) m ≡ Ok n → Stepped (touch_put u i xs) m n
 unfolding change
 put_attribute_steps m n u i xs e =
     let (h, is, e₁) = given_then (holding m u) _ _ _ _ e in
@@ -327,7 +327,7 @@ put_attribute_steps m n u i xs e =
     put_attribute_made m n u i xs h f c is level id (ap (λ o. then o (λ a. means a.rule xs)) known ∙ contents_ok f.rule xs c isc) ok made
 
 pub steps_of : (g : Touch) (m n : Message) → Well m → change (as_edit g) m ≡ Ok n → Stepped g m n
-steps_of (touch-put u i xs) m n w e = put_attribute_steps m n u i xs e
+steps_of (touch_put u i xs) m n w e = put_attribute_steps m n u i xs e
 steps_of (put_value u xs) m n w e = put_property_steps m n u xs e
 steps_of (drop_contents u i) m n w e = drop_attribute_steps m n u i e
 steps_of (drop_value u xs) m n w e = drop_property_steps m n u xs w e

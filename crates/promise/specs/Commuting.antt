@@ -5,7 +5,7 @@ use Rattle.index.specs.Keys.{Key}
 use Rattle.property.specs.Lists.{Property}
 use Rattle.stream.specs.Messages.{Message, Holding}
 use Rattle.message.specs.declared.Target.{Target}
-use Rattle.message.specs.declared.Target.TheVariants.{Message as to-message, Row as to_row, Attachment as to-attachment}
+use Rattle.message.specs.declared.Target.TheVariants.{Message as to_message, Row as to_row, Attachment as to_attachment}
 use Rattle.message.specs.Sameness.{holding}
 use Rattle.editing.specs.Slots.{has_key}
 use Rattle.editing.specs.Edits.{Edit, put_attribute, put_property, drop_attribute, drop_property, given_property, given_key}
@@ -80,15 +80,15 @@ lacks (Some h) (Err e) = false
 lacks (Some h) (Ok p) = not (has_key p.key h.properties)
 
 abbrev pub same_target : Target → Target → Bool
-same_target to-message to-message = true
-same_target to-message (to_row r) = false
-same_target to-message (to-attachment k) = false
-same_target (to_row r) to-message = false
+same_target to_message to_message = true
+same_target to_message (to_row r) = false
+same_target to_message (to_attachment k) = false
+same_target (to_row r) to_message = false
 same_target (to_row r) (to_row q) = r == q
-same_target (to_row r) (to-attachment k) = false
-same_target (to-attachment k) to-message = false
-same_target (to-attachment k) (to_row r) = false
-same_target (to-attachment k) (to-attachment l) = k == l
+same_target (to_row r) (to_attachment k) = false
+same_target (to_attachment k) to_message = false
+same_target (to_attachment k) (to_row r) = false
+same_target (to_attachment k) (to_attachment l) = k == l
 
 -- Whether a touch is a property put that brings a new key to target t of the message.
 abbrev pub brings : Message → Target → Touch → Bool

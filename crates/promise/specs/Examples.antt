@@ -4,7 +4,7 @@ use Rattle.source.specs.Outcome.{refused}
 use Rattle.source.specs.declared.refusals.Reason.TheVariants.{ShortWork, Missing, NotWritten, FormTooLong}
 use Rattle.attribute.specs.Table.{message_properties_id}
 use Rattle.stream.specs.Writing.{write_frame}
-use Rattle.message.specs.declared.Target.TheVariants.{Message as to-message}
+use Rattle.message.specs.declared.Target.TheVariants.{Message as to_message}
 use Rattle.message.specs.Examples.{smallest, subject_id, two_subjects}
 use Rattle.editing.specs.Edits.{Edit, put_attribute, put_property, drop_attribute}
 use Rattle.editing.specs.Examples.{status_id, put_subject, truth_given, seven_given}
@@ -33,7 +33,7 @@ abbrev pub status_data : List ℕ
 status_data = 0x24 ∷ (0x00 ∷ (0x00 ∷ (0x00 ∷ [])))
 
 abbrev pub put_status : Edit
-put_status = put_attribute to-message status_id status_data
+put_status = put_attribute to_message status_id status_data
 
 -- The properties 2, a truth, and 3, the number 7, as they stand in a form.
 abbrev pub truth_written : List ℕ
@@ -49,14 +49,14 @@ pub record WorkedRuns : Type 0 where
   pub loaded : run (load two_subjects ∷ []) ≡ record { area = filled (smallest ++ subject_frame) 67; size = 53 }
   pub put : run (begin 1252 ∷ (edit put_subject ∷ [])) ≡ run (load two_subjects ∷ [])
   -- A refused edit and a look leave the draft.
-  pub kept : run (begin 1252 ∷ (edit (drop_attribute to-message subject_id) ∷ (look ∷ []))) ≡ run (begin 1252 ∷ [])
-  pub refused_edit : answer memory (run (begin 1252 ∷ [])) (edit (drop_attribute to-message subject_id)) ≡ refused Missing 0
+  pub kept : run (begin 1252 ∷ (edit (drop_attribute to_message subject_id) ∷ (look ∷ []))) ≡ run (begin 1252 ∷ [])
+  pub refused_edit : answer memory (run (begin 1252 ∷ [])) (edit (drop_attribute to_message subject_id)) ≡ refused Missing 0
   -- Puts of two attributes come to one draft in either order.
   pub either_order : run (begin 1252 ∷ (edit put_subject ∷ (edit put_status ∷ []))) ≡ run (begin 1252 ∷ (edit put_status ∷ (edit put_subject ∷ [])))
   pub both_put : form (run (begin 1252 ∷ (edit put_status ∷ (edit put_subject ∷ [])))) ≡ smallest ++ (subject_frame ++ write_frame 1 status_id status_data)
   -- Properties with new keys stand in the order in which they came.
-  pub truth_first : form (run (begin 1252 ∷ (edit (put_property to-message truth_given) ∷ (edit (put_property to-message seven_given) ∷ [])))) ≡ two_properties truth_written seven_given
-  pub seven_first : form (run (begin 1252 ∷ (edit (put_property to-message seven_given) ∷ (edit (put_property to-message truth_given) ∷ [])))) ≡ two_properties seven_given truth_written
+  pub truth_first : form (run (begin 1252 ∷ (edit (put_property to_message truth_given) ∷ (edit (put_property to_message seven_given) ∷ [])))) ≡ two_properties truth_written seven_given
+  pub seven_first : form (run (begin 1252 ∷ (edit (put_property to_message seven_given) ∷ (edit (put_property to_message truth_given) ∷ [])))) ≡ two_properties seven_given truth_written
   -- Before a begin or load the area is no form; and there are too little memory and too short an area.
   pub unbegun : answer memory area (edit put_subject) ≡ refused NotWritten 0
   pub short_memory : answer (record { bytes = 119; rows = 1024 }) (run (begin 1252 ∷ [])) (edit put_subject) ≡ refused ShortWork 0

@@ -1,6 +1,6 @@
 -- What was written is read again.
 use Rattle.std.proofs.Common.{◌≡◌, ℕ, zero, suc, ◌+◌, ◌-◌, ◌/◌, ◌^◌, ◌<◌, ◌≤◌, Bool, true, false, List, [], ◌∷◌, ◌++◌, length, take, drop, Some, None, Ok, Option, sym, refl, ap, ◌∙◌, arith}
-use Rattle.std.specs.List.{flat_map, AllByRecursion as All}
+use Rattle.std.specs.List.{flat_map, AllByRecursion}
 use Rattle.std.proofs.lemmas.Nat.{div_below}
 use Rattle.std.proofs.lemmas.List.{length-append, length-replicate, take-take, take_at, drop_at, drop-take, drop-drop}
 use Rattle.std.proofs.lemmas.Bool.{eqb-true, le-leb}
@@ -55,7 +55,7 @@ module _ (xs : List ℕ) (end : ℕ) where
   -- One thing after another.
   module _ {A : Type 0} (read : ℕ → Outcome (At A)) (write : A → List ℕ) (V : A → Type 0)
       (one : (p : ℕ) (a : A) → V a → Stands xs end p (write a) → Ok (at a (p + length (write a))) ≡ read p) where
-    repeated_back : (p : ℕ) (as' : List A) → All V as' → Stands xs end p (flat_map write as')
+    repeated_back : (p : ℕ) (as' : List A) → AllByRecursion V as' → Stands xs end p (flat_map write as')
         → Ok (at as' (p + length (flat_map write as'))) ≡ repeated read (length as') p
     unfolding repeated ◌>>=◌
     repeated_back p [] v s = ap (λ n. Ok (at [] n)) (omega arith)
@@ -138,7 +138,7 @@ module _ (xs : List ℕ) (end : ℕ) where
         let (a, r) = split p (le 4 n) b s in
         (number_back 4 n p h a, moved _ (p + 4) b (ap (λ n. p + n) (length_le 4 n)) r, simp (length-append, length_le) (omega arith))
 
-    values_of_back : (o : Option ℕ) (k : Kind) (several : Bool) (p : ℕ) (vs : List Value) → width k ≡ o → All (OfKind k) vs → Counted o several (length vs)
+    values_of_back : (o : Option ℕ) (k : Kind) (several : Bool) (p : ℕ) (vs : List Value) → width k ≡ o → AllByRecursion (OfKind k) vs → Counted o several (length vs)
         → Stands xs end p (write_values o several vs) → Ok (at vs (p + length (write_values o several vs))) ≡ values_of xs end start o k several p
     unfolding fixed_values sized_values write_values
     values_of_back (Some w) k false p vs e v c s = rw c at (repeated_back _ write_fixed (OfKind k) (λ p v o s. fixed_one_back k w p v e o s) p vs v s)
@@ -176,7 +176,7 @@ module _ (xs : List ℕ) (end : ℕ) where
     next_number (numbered g n) number = (omega arith, omega arith)
     next_number (named g s) number = (omega arith, omega arith)
 
-    properties_back : (number p : ℕ) (ps : List Property) → first_named ≤ number → number + length ps ≤ 256 ^ 2 → All Valid ps → Stands xs end p (write_properties number ps)
+    properties_back : (number p : ℕ) (ps : List Property) → first_named ≤ number → number + length ps ≤ 256 ^ 2 → AllByRecursion Valid ps → Stands xs end p (write_properties number ps)
         → Ok (at ps (p + length (write_properties number ps))) ≡ repeated (property_at xs end) (length ps) p
     unfolding repeated ◌>>=◌
     properties_back number p [] a b v s = ap (λ n. Ok (at [] n)) (omega arith)

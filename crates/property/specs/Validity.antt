@@ -1,6 +1,6 @@
 -- Which properties, lists and tables can be written, and that what is written is read back.
 use Rattle.std.specs.Prelude.{◌≡◌, ℕ, ◌+◌, ◌^◌, ◌<◌, ◌≤◌, Bool, true, false, cond, List, length, Some, None, Ok, Option, ◌==◌, nat_le}
-use Rattle.std.specs.List.{AllByRecursion as All}
+use Rattle.std.specs.List.{AllByRecursion}
 use Rattle.source.specs.Bytes.{part}
 use Rattle.scan.specs.Texts.{is_text16}
 use Rattle.index.specs.Keys.{Key, tag, numbered, named}
@@ -31,7 +31,7 @@ Counted None several n = (n < 256 ^ 4) × (cond several (nat_le 1 n) (n == 1) �
 
 abbrev pub ValidValues : Option Shape → List Value → Type 0
 ValidValues None vs = ⊥
-ValidValues (Some s) vs = All (OfKind s.kind) vs × Counted (width s.kind) s.several (length vs)
+ValidValues (Some s) vs = AllByRecursion (OfKind s.kind) vs × Counted (width s.kind) s.several (length vs)
 
 pub record Valid (p : Property) : Type 0 where
   pub type_small : p.type < 256 ^ 2
@@ -39,10 +39,10 @@ pub record Valid (p : Property) : Type 0 where
   pub values_valid : ValidValues (shape_of p.type) p.values
 
 abbrev pub ValidList : List Property → Type 0
-ValidList ps = All Valid ps × (length ps ≤ list_limit)
+ValidList ps = AllByRecursion Valid ps × (length ps ≤ list_limit)
 
 abbrev pub ValidTable : List (List Property) → Type 0
-ValidTable rs = All ValidList rs × (length rs ≤ row_limit)
+ValidTable rs = AllByRecursion ValidList rs × (length rs ≤ row_limit)
 
 -- The bytes bs stand at p, within data that end at `end`.
 abbrev pub Stands : List ℕ → ℕ → ℕ → List ℕ → Type 0

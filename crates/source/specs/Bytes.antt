@@ -1,10 +1,10 @@
 -- Lists of bytes: parts of them, and the numbers that they mean.
 use Rattle.std.specs.Prelude.{ℕ, zero, suc, ◌+◌, ◌*◌, ◌/◌, ◌%◌, ◌<◌, Bool, true, false, ◌&&◌, List, [], ◌∷◌, take, drop, ◌==◌}
-use Rattle.std.specs.List.{AllByRecursion as All}
+use Rattle.std.specs.List.{AllByRecursion}
 
 -- Numbers that are bytes.
 abbrev pub Octets : List ℕ → Type 0
-Octets xs = All (λ x. x < 256) xs
+Octets xs = AllByRecursion (λ x. x < 256) xs
 
 -- The n bytes of xs from place p on.
 unfoldable pub part : List ℕ → ℕ → ℕ → List ℕ

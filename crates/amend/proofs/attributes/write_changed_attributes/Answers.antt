@@ -1,5 +1,5 @@
 use Rattle.std.proofs.Common.{sym, refl, ◌∙◌, subst, arith}
-use Rattle.std.specs.List.{AllByRecursion as All}
+use Rattle.std.specs.List.{AllByRecursion}
 use Rattle.std.proofs.ByRecursion.{All-get_or}
 use Rattle.source.specs.Content.{meaning}
 use Rattle.pen.proofs.Pens.{leads_on, leads_end}
@@ -14,7 +14,7 @@ write_changed_attribute-here-requires g c =
     let i = c.loop-attribute.invariant in
     record {
       fits = omega (arith, c.loop-attribute.auto.out, c.requires.fits);
-      sound = subst (λ t. All (Standing (meaning t)) c.args.rows.now) (sym i.0) c.requires.sound;
+      sound = subst (λ t. AllByRecursion (Standing (meaning t)) c.args.rows.now) (sym i.0) c.requires.sound;
       simple = All-get_or Plain c.args.table.now _ _ c.loop-attribute-test.true c.requires.simple;
       meant = (c.requires.meant.0, subst (λ t. SlotMeans (meaning t) c.args.slot c.requires.meant.0) (sym i.1) c.requires.meant.1);
     }

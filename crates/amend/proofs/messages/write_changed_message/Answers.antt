@@ -1,5 +1,5 @@
 use Rattle.std.proofs.Common.{sym, ◌∙◌, subst, arith}
-use Rattle.std.specs.List.{AllByRecursion as All}
+use Rattle.std.specs.List.{AllByRecursion}
 use Rattle.source.specs.Content.{meaning}
 use Rattle.pen.proofs.Pens.{◌▷◌}
 use Rattle.form.specs.Targets.{Standing}
@@ -15,7 +15,7 @@ write_changed_attributes-attributes-requires g c =
     record {
       fits = c.requires.fits;
       sound = c.requires.sound;
-      simple = subst (λ t. All Plain t) (sym c.message_table-table.ensures) message_plain;
+      simple = subst (λ t. AllByRecursion Plain t) (sym c.message_table-table.ensures) message_plain;
       meant = (τ.slot, m.slot);
     }
 
@@ -26,7 +26,7 @@ write_changed_recipients-recipients-requires g c =
     record {
       fits = omega (arith, c.write_changed_attributes-attributes.auto.out, c.requires.fits);
       room = c.requires.room;
-      sound = subst (λ t. All (Standing (meaning t)) c.args.rows.now) (sym a.same) c.requires.sound;
+      sound = subst (λ t. AllByRecursion (Standing (meaning t)) c.args.rows.now) (sym a.same) c.requires.sound;
       meant = (ρ, rowing_moved a.kept c.args.rowing ρ m);
     }
 
@@ -38,7 +38,7 @@ write_changed_properties-requires g c =
     record {
       fits = omega (arith, c.write_changed_attributes-attributes.auto.out, c.write_changed_recipients-recipients.auto.out, c.requires.fits);
       room = omega (arith, c.write_changed_recipients-recipients.auto.lent, c.requires.room);
-      sound = subst (λ t. All (Standing (meaning t)) c.args.rows.now) (sym (r.same ∙ a.same)) c.requires.sound;
+      sound = subst (λ t. AllByRecursion (Standing (meaning t)) c.args.rows.now) (sym (r.same ∙ a.same)) c.requires.sound;
       listed = message_listed;
       meant = (τ.listing, listing_moved (r.kept ∙ a.kept) c.args.touch.listing τ.listing m.listing);
     }

@@ -1,5 +1,5 @@
 use Rattle.std.proofs.Common.{sym, ◌∙◌, subst, arith}
-use Rattle.std.specs.List.{AllByRecursion as All}
+use Rattle.std.specs.List.{AllByRecursion}
 use Rattle.source.specs.Content.{meaning}
 use Rattle.pen.proofs.Pens.{◌▷◌}
 use Rattle.form.specs.Targets.{Standing}
@@ -19,8 +19,8 @@ write_changed_attributes-attributes-requires g c =
     let (τ, m) = c.requires.meant in
     record {
       fits = omega (arith, c.write_changed_attribute-rendering.auto.out, c.requires.fits);
-      sound = subst (λ t. All (Standing (meaning t)) c.args.rows.now) (sym r.same) c.requires.sound;
-      simple = subst (λ t. All Plain t) (sym c.attachment_table-table.ensures) attachment_plain;
+      sound = subst (λ t. AllByRecursion (Standing (meaning t)) c.args.rows.now) (sym r.same) c.requires.sound;
+      simple = subst (λ t. AllByRecursion Plain t) (sym c.attachment_table-table.ensures) attachment_plain;
       meant = (τ.slot, slot_moved r.kept c.args.touch.slot τ.slot m.slot);
     }
 
@@ -32,7 +32,7 @@ write_changed_properties-requires g c =
     record {
       fits = omega (arith, c.write_changed_attribute-rendering.auto.out, c.write_changed_attributes-attributes.auto.out, c.requires.fits);
       room = c.requires.room;
-      sound = subst (λ t. All (Standing (meaning t)) c.args.rows.now) (sym (a.same ∙ r.same)) c.requires.sound;
+      sound = subst (λ t. AllByRecursion (Standing (meaning t)) c.args.rows.now) (sym (a.same ∙ r.same)) c.requires.sound;
       listed = attachment_listed;
       meant = (τ.listing, listing_moved (a.kept ∙ r.kept) c.args.touch.listing τ.listing m.listing);
     }

@@ -1,5 +1,5 @@
 use Rattle.std.proofs.Common.{sym, ◌∙◌, subst, arith}
-use Rattle.std.specs.List.{AllByRecursion as All}
+use Rattle.std.specs.List.{AllByRecursion}
 use Rattle.source.specs.Content.{meaning}
 use Rattle.pen.proofs.Pens.{◌▷◌}
 use Rattle.form.specs.Targets.{Standing}
@@ -15,8 +15,8 @@ write_attributes-attributes-requires g c =
     let r = c.write_attribute-rendering.ensures in
     record {
       fits = omega (arith, r.value.kept, c.requires.fits);
-      sound = subst (λ t. All (Standing (meaning t)) c.args.rows.now) (sym r.same) c.requires.sound;
-      simple = subst (λ t. All Plain t) (sym c.attachment_table.ensures) attachment_plain;
+      sound = subst (λ t. AllByRecursion (Standing (meaning t)) c.args.rows.now) (sym r.same) c.requires.sound;
+      simple = subst (λ t. AllByRecursion Plain t) (sym c.attachment_table.ensures) attachment_plain;
     }
 
 pub write_properties-requires : goal.write_properties-requires
@@ -26,7 +26,7 @@ write_properties-requires g c =
     record {
       fits = omega (arith, r.value.kept, a.value.kept, c.requires.fits);
       room = c.requires.room;
-      sound = subst (λ t. All (Standing (meaning t)) c.args.rows.now) (sym (a.same ∙ r.same)) c.requires.sound;
+      sound = subst (λ t. AllByRecursion (Standing (meaning t)) c.args.rows.now) (sym (a.same ∙ r.same)) c.requires.sound;
       listed = attachment_listed;
     }
 

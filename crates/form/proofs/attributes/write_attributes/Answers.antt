@@ -1,5 +1,5 @@
 use Rattle.std.proofs.Common.{sym, refl, ◌∙◌, subst, arith}
-use Rattle.std.specs.List.{AllByRecursion as All}
+use Rattle.std.specs.List.{AllByRecursion}
 use Rattle.std.proofs.ByRecursion.{All-get_or}
 use Rattle.source.specs.Content.{meaning}
 use Rattle.form.specs.Holdings.{Plain}
@@ -11,7 +11,7 @@ use Rattle.form.proofs.attributes.write_attributes.Goals as goal
 pub write_attribute-here-requires : goal.write_attribute-here-requires
 write_attribute-here-requires g c = record {
   fits = omega (arith, c.loop-attribute.auto.out, c.requires.fits);
-  sound = subst (λ t. All (Standing (meaning t)) c.args.rows.now) (sym c.loop-attribute.invariant.0) c.requires.sound;
+  sound = subst (λ t. AllByRecursion (Standing (meaning t)) c.args.rows.now) (sym c.loop-attribute.invariant.0) c.requires.sound;
   simple = All-get_or Plain c.args.table.now _ _ c.loop-attribute-test.true c.requires.simple;
 }
 

@@ -1,5 +1,5 @@
 use Rattle.std.proofs.Common.{sym, ◌∙◌, subst, arith}
-use Rattle.std.specs.List.{AllByRecursion as All}
+use Rattle.std.specs.List.{AllByRecursion}
 use Rattle.source.specs.Content.{meaning}
 use Rattle.pen.proofs.Pens.{◌▷◌}
 use Rattle.form.specs.Targets.{Standing}
@@ -9,7 +9,7 @@ use Rattle.form.proofs.messages.write_message.Goals as goal
 
 pub write_attributes-attributes-requires : goal.write_attributes-attributes-requires
 write_attributes-attributes-requires g c =
-    record { fits = c.requires.fits; sound = c.requires.sound; simple = subst (λ t. All Plain t) (sym c.message_table.ensures) message_plain }
+    record { fits = c.requires.fits; sound = c.requires.sound; simple = subst (λ t. AllByRecursion Plain t) (sym c.message_table.ensures) message_plain }
 
 pub write_properties-requires : goal.write_properties-requires
 write_properties-requires g c =
@@ -18,7 +18,7 @@ write_properties-requires g c =
     record {
       fits = omega (arith, r.value.kept, a.value.kept, c.requires.fits);
       room = omega (arith, c.write_recipients-recipients.auto.lent, c.requires.room);
-      sound = subst (λ t. All (Standing (meaning t)) c.args.rows.now) (sym (r.same ∙ a.same)) c.requires.sound;
+      sound = subst (λ t. AllByRecursion (Standing (meaning t)) c.args.rows.now) (sym (r.same ∙ a.same)) c.requires.sound;
       listed = message_listed;
     }
 
