@@ -5,7 +5,7 @@ use Rattle.std.specs.declared.alloc.AllocError.{AllocError}
 use Rattle.std.specs.Str.{bytes_eq}
 use Rattle.std.proofs.lemmas.List.{map_push, length-set, get_or-set_same, get_or-set_other, get_or_append_left}
 use Rattle.index.specs.Rows.{before, added}
-use Rattle.correspondence.specs.Forms.{bytes_of}
+use Rattle.correspondence.specs.Vectors.{bytes_of}
 use Rattle.correspondence.specs.declared.links.Link.{Link}
 use Rattle.correspondence.specs.declared.links.Spot.TheVariants.{Under}
 use Rattle.correspondence.specs.Trees.{mark_of, no_link, fresh, hung, Sound, Located, Keeps}

@@ -1,3 +1,4 @@
+pub mod Vectors
 pub mod Forms
 pub mod Groups
 pub mod Trees

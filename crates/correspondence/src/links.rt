@@ -1,7 +1,7 @@
 // Forms in a search tree, so that a form is found without comparing it with each.
 ghost use Rattle.std.specs.Prelude.{◌≡◌, ◌<◌, vec_len, fold, slice_index_or, slice_set};
 ghost use Rattle.std.specs.Str.{bytes_eq};
-ghost use Rattle.correspondence.specs.Forms.{bytes_of};
+ghost use Rattle.correspondence.specs.Vectors.{bytes_of};
 ghost use Rattle.correspondence.specs.Trees.{stir, mark_of, no_link, next_of, hung, Sound, Located};
 
 // The mark of a form, and the places of forms that hang under it: those of lower marks, and the others. Nothing is at 0.

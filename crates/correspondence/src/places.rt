@@ -2,7 +2,7 @@
 ghost use Rattle.std.specs.Prelude.{◌≡◌, false, [], ◌∷◌, ◌++◌, length, is_ok, IfOk, if◌then◌else◌, vec_len};
 ghost use Rattle.std.specs.Str.{bytes_eq};
 ghost use Rattle.index.specs.Rows.{added, before};
-ghost use Rattle.correspondence.specs.Forms.{forms_in};
+ghost use Rattle.correspondence.specs.Vectors.{forms_of};
 ghost use Rattle.correspondence.specs.Trees.{mark_of, fresh, Sound, Located, Keeps};
 ghost use Rattle.correspondence.specs.declared.links.Spot.TheVariants.{Under};
 
@@ -20,7 +20,6 @@ fn keep(
     ensures forms { forms.new.items ≡ (if is_ok result then forms.old.items ++ form ∷ [] else forms.old.items) }
     ensures links { links.new.items ≡ (if is_ok result then links.old.items ++ fresh mark ∷ [] else links.old.items) }
 {
-    let place = forms.len();
     links.reserve(1)?;
     forms.push(form)?;
     let _room = links.push(Link {
@@ -28,7 +27,7 @@ fn keep(
         low: 0,
         high: 0,
     });
-    Ok(place)
+    Ok(forms.len() - 1)
 }
 
 // The first form.
@@ -38,10 +37,10 @@ fn keep_first(
     form: Vec<u8>,
     mark: u64,
 ) -> Result<usize, AllocError>
-    requires sound { Sound (forms_in forms.old) links.old.items }
+    requires sound { Sound (forms_of forms.old) links.old.items }
     requires marked { mark ≡ mark_of form.items }
-    requires first { length (forms_in forms.old) ≡ 0 }
-    ensures { Keeps (forms_in forms.old) form.items (forms_in forms.new) links.new.items result }
+    requires first { length (forms_of forms.old) ≡ 0 }
+    ensures { Keeps (forms_of forms.old) form.items (forms_of forms.new) links.new.items result }
 {
     keep(forms, links, form, mark)
 }
@@ -54,10 +53,10 @@ fn keep_under(
     form: Vec<u8>,
     mark: u64,
 ) -> Result<usize, AllocError>
-    requires sound { Sound (forms_in forms.old) links.old.items }
+    requires sound { Sound (forms_of forms.old) links.old.items }
     requires marked { mark ≡ mark_of form.items }
-    requires under { Located (forms_in forms.old) links.old.items form.items (Under at) }
-    ensures { Keeps (forms_in forms.old) form.items (forms_in forms.new) links.new.items result }
+    requires under { Located (forms_of forms.old) links.old.items form.items (Under at) }
+    ensures { Keeps (forms_of forms.old) form.items (forms_of forms.new) links.new.items result }
 {
     let place = keep(forms, links, form, mark)?;
     hang(links, at, mark, place);
@@ -70,10 +69,10 @@ pub fn place(
     links: &mut Vec<Link>,
     form: Vec<u8>,
 ) -> Result<usize, AllocError>
-    requires { Sound (forms_in forms.old) links.old.items }
-    ensures sound { Sound (forms_in forms.new) links.new.items }
-    ensures forms { forms_in forms.new ≡ (if is_ok result then added bytes_eq false (forms_in forms.old) form.items else forms_in forms.old) }
-    ensures group { IfOk result (λ k. k ≡ before bytes_eq (forms_in forms.new) form.items) }
+    requires { Sound (forms_of forms.old) links.old.items }
+    ensures sound { Sound (forms_of forms.new) links.new.items }
+    ensures forms { forms_of forms.new ≡ (if is_ok result then added bytes_eq false (forms_of forms.old) form.items else forms_of forms.old) }
+    ensures group { IfOk result (λ k. k ≡ before bytes_eq (forms_of forms.new) form.items) }
 {
     let mark = mark_of(form.as_slice());
     match find(forms.as_slice(), links.as_slice(), form.as_slice(), mark) {

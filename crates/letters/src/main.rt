@@ -80,7 +80,7 @@ fn print_letter<W: Write>(
     }
     match form_of(heap, rows, bytes)? {
         Ok(form) => {
-            let before = letters.add(form)?;
+            let before = letters.add_owned(form)?;
             let group = before.saturating_add(1);
             writeln!(out, "{group} {name}")
         }

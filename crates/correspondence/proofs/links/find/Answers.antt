@@ -1,7 +1,7 @@
 use Rattle.std.proofs.Common.{◌≡◌, true, false, get_or, vec_items, sym, ap, ◌∙◌, arith}
 use Rattle.std.proofs.lemmas.List.{length-map}
 use Rattle.std.proofs.lemmas.Slice.Eq.{bytes_eq-Decides}
-use Rattle.correspondence.specs.Forms.{bytes_of}
+use Rattle.correspondence.specs.Vectors.{bytes_of}
 use Rattle.correspondence.specs.Trees.{mark_of, next, next_of, no_link}
 use Rattle.correspondence.proofs.Kept.{read_at, same_at}
 use Rattle.correspondence.proofs.Searches.{tracked_start, tracked_next, tracked_only, tracked_end}
@@ -20,7 +20,7 @@ bounds-forms-at c = let l = length-map c.args.forms.now (λ v. vec_items v) in o
 pub same-requires : goal.same-requires
 same-requires c =
     let e = read_at c.args.forms.now c.walk.at c.index-forms-at.result _ c.as_slice.ensures.value c.index-forms-at.is c.walk.invariant.within in
-    (c.requires.sound.marked c.walk.at c.walk.invariant.within ∙ ap mark_of (sym e), c.requires.marked)
+    record { known_mark_value = c.requires.sound.marked c.walk.at c.walk.invariant.within ∙ ap mark_of (sym e); mark_value = c.requires.marked }
 
 pub returns-then-same : goal.returns-then-same
 returns-then-same c =

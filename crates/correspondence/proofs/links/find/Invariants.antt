@@ -1,5 +1,5 @@
 use Rattle.std.proofs.Common.{◌-◌, length}
-use Rattle.correspondence.specs.Forms.{bytes_of}
+use Rattle.correspondence.specs.Vectors.{bytes_of}
 use Rattle.correspondence.proofs.Searches.{Tracked}
 use Rattle.correspondence.proofs.links.find.Given as goal
 

@@ -1,7 +1,7 @@
 use Rattle.std.proofs.Common.{vec_items, sym, ◌∙◌}
 use Rattle.std.proofs.lemmas.List.{length-map}
 use Rattle.correspondence.proofs.Groups.{groups_decide}
-use Rattle.correspondence.proofs.Correspondence.count.Goals as goal
+use Rattle.correspondence.proofs.tree.Correspondence.count.Goals as goal
 
 pub returns : goal.returns
 returns c = record {
