@@ -8,7 +8,7 @@ use Rattle.contents.specs.Contents.{Contents}
 use Rattle.frame.specs.declared.stages.Stage.{Stage}
 use Rattle.index.specs.declared.attributes.AttributeRow.{AttributeRow}
 use Rattle.stream.specs.Reading.{Entry}
-use Rattle.stream.specs.Messages.{first, holding_of, properties_of}
+use Rattle.stream.specs.Messages.{holding_of, properties_of}
 use Rattle.stream.specs.Writing.{write_entry, attribute_entries, attachment_entries}
 use Rattle.form.specs.Targets.{remaining, Readable, own_part, Gathered, Taken}
 use Rattle.form.specs.Holdings.{Plain, contents_in}

@@ -1,5 +1,5 @@
 -- The rows of a table, one after another, of which one is changed or left out.
-use Rattle.std.proofs.Common.{◌≡◌, ℕ, suc, ◌+◌, ◌-◌, Bool, true, false, cond, eqb, List, map, Some, None, Ok, Option, sym, refl, ap, ◌∙◌, subst, append-nil}
+use Rattle.std.proofs.Common.{◌≡◌, ℕ, suc, ◌+◌, Bool, true, false, cond, eqb, List, map, Some, None, Ok, Option, sym, refl, ap, ◌∙◌, subst, append-nil}
 use Rattle.std.specs.List.{flat_map}
 use Rattle.source.proofs.Outcomes.{ok_same}
 use Rattle.pen.specs.Pen.{Penned, Leads}

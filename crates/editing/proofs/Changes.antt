@@ -6,7 +6,6 @@ use Rattle.std.proofs.ByRecursion.{All-push}
 use Rattle.std.proofs.lemmas.Bool.{and_parts, eqb-true, eq-eqb, and_from, cases_Bool, both_ways, ltb-true}
 use Rattle.source.specs.Bytes.{Octets}
 use Rattle.source.specs.Content.{source_limit}
-use Rattle.source.specs.Outcome.{given}
 use Rattle.source.proofs.Outcomes.{ok_same}
 use Rattle.attribute.specs.Table.{attribute, attribute_of, attributes, has_id, message_attributes, attachment_attributes, rendering_attribute, rendering_id}
 use Rattle.attribute.specs.declared.Attribute.{Attribute}

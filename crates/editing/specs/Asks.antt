@@ -1,16 +1,14 @@
 -- What asks and counts answer of a message.
-use Rattle.std.specs.Prelude.{ℕ, ◌-◌, ◌*◌, ◌^◌, Bool, cond, ◌||◌, List, length, take, drop, ℤ, pos, negsuc, Some, None, Ok, Option, ◌==◌, nat_lt}
+use Rattle.std.specs.Prelude.{ℕ, ◌-◌, ◌*◌, ◌^◌, cond, ◌||◌, List, length, take, drop, ℤ, pos, negsuc, Some, None, Ok, Option, ◌==◌, nat_lt}
 use Rattle.source.specs.Bytes.{val}
 use Rattle.source.specs.Outcome.{Outcome, ◌>>=◌, given}
 use Rattle.source.specs.declared.refusals.Reason.TheVariants.{Missing}
 use Rattle.scan.specs.Texts.{before_zero}
 use Rattle.attribute.specs.Table.{code_page_id}
-use Rattle.attribute.specs.declared.Attribute.{Attribute}
 use Rattle.contents.specs.Contents.{Contents, text, class, date, digits, status, importance, truth, raw, rendering, version, code_page, normal}
 use Rattle.contents.specs.Status.{flags, flag}
 use Rattle.property.specs.Kinds as kinds
 use Rattle.property.specs.Kinds.{Value}
-use Rattle.property.specs.Lists.{Property}
 use Rattle.stream.specs.Messages.{Message, Holding}
 use Rattle.message.specs.declared.Target.{Target}
 use Rattle.message.specs.Sameness.{nth, holding, property_in}

@@ -1,5 +1,5 @@
 -- What an edit makes of a message, in the order of its checks: target, input, key, limit.
-use Rattle.std.specs.Prelude.{ℕ, Bool, ◌||◌, List, [], ◌∷◌, ◌++◌, length, None, Ok, Option, nat_le, nat_lt}
+use Rattle.std.specs.Prelude.{ℕ, ◌||◌, List, [], ◌∷◌, ◌++◌, length, None, Ok, nat_le, nat_lt}
 use Rattle.source.specs.Content.{source_limit}
 use Rattle.source.specs.Outcome.{Outcome, ◌>>=◌, ◌>>◌, need, given}
 use Rattle.source.specs.declared.refusals.Reason.TheVariants.{SourceTooLong, NotAdmitted, Limit, Missing}

@@ -1,5 +1,5 @@
 -- One attribute or one property of a target, put or dropped.
-use Rattle.std.specs.Prelude.{ℕ, zero, suc, Bool, true, false, cond, ◌||◌, List, [], ◌∷◌, ◌++◌, Some, None, Option, ◌==◌}
+use Rattle.std.specs.Prelude.{ℕ, zero, suc, Bool, false, cond, ◌||◌, List, [], ◌∷◌, ◌++◌, Some, None, Option, ◌==◌}
 use Rattle.contents.specs.Contents.{Contents}
 use Rattle.index.specs.Keys.{Key, same_key}
 use Rattle.property.specs.Lists.{Property}

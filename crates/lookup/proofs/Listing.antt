@@ -1,19 +1,17 @@
 -- Rows that carry the properties of a list.
-use Rattle.std.proofs.Common.{◌≡◌, ℕ, zero, suc, ◌+◌, ◌-◌, ◌<◌, ◌≤◌, min, Bool, true, false, cond, not, List, [], ◌∷◌, map, length, get_or, take, Some, None, Ok, Err, Option, sym, refl, ap, ◌∙◌, inl, inr, one-add, arith}
+use Rattle.std.proofs.Common.{◌≡◌, ℕ, zero, suc, ◌+◌, ◌<◌, ◌≤◌, min, Bool, true, false, cond, List, [], ◌∷◌, map, length, take, Some, None, Ok, Err, Option, sym, refl, ap, ◌∙◌, inl, inr, one-add, arith}
 use Rattle.std.proofs.lemmas.List.{length-take-le}
 use Rattle.std.proofs.lemmas.Bool.{cases_Bool}
 use Rattle.source.specs.declared.refusals.Refusal.{Refusal}
 use Rattle.source.proofs.Outcomes.{err_not_ok, ok_same}
-use Rattle.index.specs.Keys.{Key, key_of, same_key}
+use Rattle.index.specs.Keys.{key_of, same_key}
 use Rattle.index.specs.Rows.{has, before, position}
 use Rattle.index.specs.declared.properties.PropertyRow.{PropertyRow}
 use Rattle.property.specs.declared.indexing.Listed.{Listed}
 use Rattle.property.specs.Fields.{At, at, data_end}
 use Rattle.property.specs.Indexing.{same_row, Carried, ListedBy, listed}
 use Rattle.property.specs.Lists.{Property, list_at, list_limit, recipient_table, indexed}
-use Rattle.property.specs.Rows.{Carries}
 use Rattle.property.proofs.Carrying.{carries_key, listed_room}
-use Rattle.stream.specs.Messages.{Holding}
 use Rattle.message.specs.Sameness.{nth, row_holding}
 use Rattle.listform.specs.Forms.{number_there}
 use Rattle.listform.proofs.ListForms.{table_in}

@@ -1,11 +1,10 @@
 -- The primary number that a row of the code page has.
-use Rattle.std.proofs.Common.{◌≡◌, ℕ, ◌+◌, List, Some, None, Ok, Err, Option, unwrap_or, sym, refl, ap, ◌∙◌}
+use Rattle.std.proofs.Common.{◌≡◌, ℕ, List, Some, None, Ok, Err, Option, unwrap_or, sym, ap, ◌∙◌}
 use Rattle.std.specs.List.{AllByRecursion}
-use Rattle.source.specs.Bytes.{part}
 use Rattle.source.specs.declared.refusals.Refusal.{Refusal}
 use Rattle.source.proofs.Outcomes.{err_not_ok, ok_same}
 use Rattle.scan.specs.Scans.{asked}
-use Rattle.scan.proofs.Parts.{asked_within, asked_got}
+use Rattle.scan.proofs.Parts.{asked_within}
 use Rattle.attribute.specs.Table.{code_page_id}
 use Rattle.attribute.specs.declared.Rule.TheVariants as rule
 use Rattle.contents.specs.Contents.{Contents, code_page, means, code_page_in, primary_number}

@@ -1,5 +1,5 @@
 -- Attachments that are passed, one after another.
-use Rattle.std.proofs.Common.{◌≡◌, ℕ, zero, suc, ◌+◌, ◌<◌, ◌≤◌, true, false, ltb, List, [], ◌∷◌, ◌++◌, map, length, is_some, Some, None, Option, sym, refl, ap, ◌∙◌, inl, inr, append_assoc, append-nil, arith}
+use Rattle.std.proofs.Common.{◌≡◌, ℕ, zero, suc, ◌+◌, ◌<◌, ◌≤◌, ltb, List, [], ◌∷◌, ◌++◌, map, length, is_some, Some, None, Option, sym, refl, ap, ◌∙◌, inl, inr, append_assoc, append-nil, arith}
 use Rattle.std.proofs.lemmas.List.{length-append}
 use Rattle.std.proofs.lemmas.Bool.{cases_lt, lt-ltb, le-ltb, eq-eqb}
 use Rattle.std.proofs.lemmas.Bool.Decides.{nat_tests}
@@ -11,7 +11,7 @@ use Rattle.frame.specs.declared.stages.Stage.TheVariants.{Version}
 use Rattle.contents.specs.Writing.{known}
 use Rattle.index.specs.declared.attributes.AttributeRow.{AttributeRow}
 use Rattle.stream.specs.Reading.{Entry}
-use Rattle.stream.specs.Messages.{Holding, holding_of, attachment_parts}
+use Rattle.stream.specs.Messages.{holding_of, attachment_parts}
 use Rattle.property.specs.Lists.{Property}
 use Rattle.message.specs.Sameness.{nth, row_holding}
 use Rattle.form.specs.Targets.{remaining, Readable, own_part, past_part, Taken, StaysWritten}

@@ -1,5 +1,5 @@
 -- The values of a property that a row carries.
-use Rattle.std.proofs.Common.{◌≡◌, ℕ, zero, suc, ◌+◌, ◌-◌, ◌*◌, ◌<◌, ◌≤◌, Bool, true, false, cond, eqb, leb, List, [], ◌∷◌, length, Some, None, Ok, Err, Option, sym, refl, ap, ◌∙◌, suc-mul, zero-mul, arith}
+use Rattle.std.proofs.Common.{◌≡◌, ℕ, zero, suc, ◌+◌, ◌*◌, ◌<◌, ◌≤◌, Bool, true, false, cond, eqb, leb, List, length, Some, None, Ok, Option, sym, refl, ap, ◌∙◌, suc-mul, zero-mul, arith}
 use Rattle.source.specs.Bytes.{part, val}
 use Rattle.source.specs.Outcome.{Outcome, ◌>>=◌, ◌>>◌, need, given}
 use Rattle.source.specs.declared.refusals.Reason.TheVariants.{FieldRule}
@@ -16,11 +16,8 @@ use Rattle.property.specs.Values.{fixed_value, fixed_values, sized_value, sized_
 use Rattle.message.specs.Sameness.{nth}
 use Rattle.listform.specs.Forms.{number_there, sized_next}
 use Rattle.listform.proofs.ValueForms.{number_in, fixed_in, value_in}
-use Rattle.listform.proofs.WalkSteps.{repeated_first, repeated_nothing, repeated_length}
+use Rattle.listform.proofs.WalkSteps.{repeated_first, repeated_length}
 use Rattle.lookup.specs.Listing.{Reaches}
-use Rattle.lookup.specs.Values.{ValueStands}
-use Rattle.lookup.specs.declared.values.Span.{Span}
-use Rattle.lookup.proofs.Passing.{nth_past}
 use Rattle.lookup.proofs.Reaching.{nth_drop, reach_first}
 
 given_got : {A : Type 0} (o : Option A) (p : ℕ) (a : A) → Ok a ≡ given o FieldRule p → o ≡ Some a

@@ -1,14 +1,12 @@
 -- A written form is, behind its header, as its entries are written.
-use Rattle.std.proofs.Common.{◌≡◌, ℕ, ◌+◌, ◌^◌, ◌<◌, ◌≤◌, List, [], ◌∷◌, ◌++◌, map, length, drop, Ok, sym, refl, ap, ◌∙◌, subst, arith}
+use Rattle.std.proofs.Common.{◌≡◌, ℕ, ◌^◌, ◌<◌, ◌≤◌, List, length, drop, sym, refl, ap, ◌∙◌, subst, arith}
 use Rattle.std.specs.List.{flat_map}
-use Rattle.frame.specs.Frames.{signature}
 use Rattle.frame.specs.declared.stages.Stage.TheVariants.{Version}
-use Rattle.stream.specs.Reading.{entries_at}
 use Rattle.stream.specs.Messages.{Message}
 use Rattle.stream.specs.Writing.{write_entry, entries_in, written}
 use Rattle.message.specs.Sameness.{IsMessage}
 use Rattle.message.specs.Grammar.{run, frame_bytes}
-use Rattle.message.proofs.FrameReads.{entry, entries_back}
+use Rattle.message.proofs.FrameReads.{entries_back}
 use Rattle.message.proofs.Laying.{Well, LaidAs, good_laid, message_good}
 use Rattle.message.proofs.Forms.{well}
 use Rattle.form.specs.Targets.{or_none, remaining, AsWritten}

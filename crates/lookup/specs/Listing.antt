@@ -8,7 +8,7 @@ use Rattle.property.specs.Indexing.{Carried}
 use Rattle.property.specs.Lists.{Property, indexed}
 use Rattle.property.specs.Rows.{Carries}
 use Rattle.stream.specs.Messages.{Holding}
-use Rattle.message.specs.Sameness.{nth, property_in}
+use Rattle.message.specs.Sameness.{property_in}
 use Rattle.editing.specs.Slots.{has_key}
 
 -- The first n rows carry properties, one each.

@@ -9,7 +9,7 @@ use Rattle.stream.specs.Reading.{Meant, version, primary, contents, list, table,
 use Rattle.stream.specs.Messages.{Message, Holding, or_default, first, as_contents, as_list, as_table, as_primary, contents_under, properties_of, rows_of, primary_of, holding_of, message_part, attachment_parts, message_of}
 use Rattle.message.specs.Grammar.{DataMean, Laid, Right, Attached, attached, InOrder, Told, WithId, OfNature, Holds, Each, Tells}
 use Rattle.message.proofs.FrameReads.{entry}
-use Rattle.message.proofs.Roles.{RightAttached, front, ByTarget, by_target, opening_nature, page_nature}
+use Rattle.message.proofs.Roles.{RightAttached, ByTarget, by_target, opening_nature, page_nature}
 
 -- A frame of the kind P, which tells something, or one of another kind, which does not.
 abbrev Sorted : {A : Type 0} → (Entry → Option A) → (Laid → Type 0) → (A → Meant) → Laid → Type 0

@@ -16,7 +16,6 @@ use Rattle.frame.specs.Stages.{Role, opens, names_page, of_message, begins_attac
 use Rattle.frame.specs.declared.Frame.{Frame}
 use Rattle.frame.specs.declared.stages.Stage.{Stage}
 use Rattle.frame.specs.declared.stages.Stage.TheVariants as stage
-use Rattle.contents.specs.Contents.{means}
 use Rattle.stream.specs.Reading.{Meant, Entry, Nature, plain, opening, page, rows, properties, nature, meant_as, meant_at, entries_from, entries_at}
 use Rattle.message.specs.Grammar.{◌▷◌, run, DataMean, Laid, frame_bytes, Right}
 use Rattle.message.proofs.Pieces.{drop_behind, part_left, part_split, get_or_left}

@@ -1,12 +1,12 @@
 -- The entries of a well-formed message, laid as frames, are a stream.
-use Rattle.std.proofs.Common.{◌≡◌, ℕ, ◌+◌, ◌-◌, ◌^◌, ◌<◌, ◌≤◌, true, false, eqb, List, [], ◌∷◌, ◌++◌, map, length, Some, None, Ok, Option, sym, refl, ap, ◌∙◌, arith}
+use Rattle.std.proofs.Common.{◌≡◌, ℕ, ◌+◌, ◌^◌, ◌<◌, ◌≤◌, true, false, eqb, List, [], ◌∷◌, ◌++◌, map, length, Some, None, Ok, Option, sym, refl, ap, ◌∙◌, arith}
 use Rattle.std.specs.List.{flat_map, AllByRecursion}
 use Rattle.std.proofs.lemmas.List.{append_assoc, length-append}
 use Rattle.std.proofs.lemmas.Bool.{lt-ltb}
 use Rattle.std.proofs.ByRecursion.{All-append}
 use Rattle.source.specs.Bytes.{Octets, le}
 use Rattle.scan.specs.Scans.{checksum}
-use Rattle.attribute.specs.Table.{attribute_of, attributes, has_id, message_attributes, attachment_attributes, rendering_attribute, rendering_id, message_properties_id, attachment_properties_id, recipients_id, code_page_id, version_id}
+use Rattle.attribute.specs.Table.{attribute_of, has_id, message_attributes, attachment_attributes, rendering_attribute, rendering_id, message_properties_id, attachment_properties_id, recipients_id, code_page_id, version_id}
 use Rattle.attribute.specs.declared.Attribute.{Attribute}
 use Rattle.frame.specs.Stages.{Role, of_message, begins_attachment, of_attachment, role, next_stage, may_end, attachment_limit}
 use Rattle.frame.specs.declared.stages.Stage.{Stage}

@@ -1,5 +1,5 @@
 -- Parts of a list, numbers as bytes, and padding.
-use Rattle.std.proofs.Common.{◌≡◌, ℕ, zero, suc, ◌+◌, ◌-◌, ◌/◌, List, [], ◌∷◌, ◌++◌, length, get_or, take, drop, replicate, sym, refl, ap, ◌∙◌, add-zero, arith, rules}
+use Rattle.std.proofs.Common.{◌≡◌, ℕ, zero, suc, ◌+◌, ◌/◌, List, [], ◌∷◌, ◌++◌, length, get_or, take, drop, replicate, sym, refl, ap, ◌∙◌, add-zero, arith, rules}
 use Rattle.std.proofs.lemmas.List.{drop-drop, drop_at, take_at, places, same_lists, get_or-drop}
 use Rattle.source.specs.Bytes.{Octets, le, part}
 

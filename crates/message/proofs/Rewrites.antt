@@ -9,7 +9,7 @@ use Rattle.index.specs.Keys.{Key, tag, numbered, named}
 use Rattle.property.specs.declared.kinds.Kind.{Kind}
 use Rattle.property.specs.declared.kinds.Kind.TheVariants.{Fixed, YesNo, String8, String16, Binary, Object}
 use Rattle.property.specs.Fields.{padded, filled}
-use Rattle.property.specs.Kinds.{Value, truth, bytes, value, width, normal}
+use Rattle.property.specs.Kinds.{Value, truth, bytes, value, width}
 use Rattle.property.specs.Lists.{Property, list_limit, row_limit}
 use Rattle.property.specs.Names.{first_named}
 use Rattle.property.specs.Writing.{write_key, write_fixed, write_sized, write_values, write_property, after_key, write_properties, write_list, write_table}

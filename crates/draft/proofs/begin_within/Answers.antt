@@ -26,13 +26,13 @@ returns-in-Some c =
     let q : length (take (c.args.room - 0) c.args.bytes.now) ≡ c.args.room = search (rules, places) in
     let t = is_enough w c.args.room (omega arith) (omega arith) in
     let p = c.in-Some.ensures in
-    let k : length c.pen-blank.new.out ≡ c.args.room = p.kept ∙ q in
+    let k : length c.pen_blank.new.out ≡ c.args.room = p.kept ∙ q in
     let n : c.in-Some.n ≡ length (written (blank c.args.primary)) = omega (arith, p.told.0) in
-    let f : take (length (written (blank c.args.primary))) c.pen-blank.new.out ≡ written (blank c.args.primary) = rw n at p.told.1 in
+    let f : take (length (written (blank c.args.primary))) c.pen_blank.new.out ≡ written (blank c.args.primary) = rw n at p.told.1 in
     let l : length (written (blank c.args.primary)) ≤ c.args.room =
-    omega (arith, ap length f, length-take (length (written (blank c.args.primary))) c.pen-blank.new.out, k) in
+    omega (arith, ap length f, length-take (length (written (blank c.args.primary))) c.pen_blank.new.out, k) in
     let d = begin_done w c.args.room c.args.primary t l in
-    let m : length (written (blank c.args.primary)) ≤ length c.pen-blank.new.out = omega arith in
+    let m : length (written (blank c.args.primary)) ≤ length c.pen_blank.new.out = omega arith in
     record { outcome = ap Ok n ∙ sym (ap (over length) d); form = rw d (take-append-le _ _ _ m ∙ f) }
 
 pub returns-in-None : goal.returns-in-None

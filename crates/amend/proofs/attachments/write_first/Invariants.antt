@@ -1,4 +1,4 @@
-use Rattle.std.proofs.Common.{◌≡◌, ◌-◌, take, drop}
+use Rattle.std.proofs.Common.{◌≡◌, take, drop}
 use Rattle.source.specs.Content.{meaning}
 use Rattle.pen.specs.Pen.{Leads}
 use Rattle.form.specs.Targets.{remaining, Readable}

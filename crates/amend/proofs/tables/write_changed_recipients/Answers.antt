@@ -2,7 +2,6 @@ use Rattle.std.proofs.Common.{map, sym, refl, ap, ◌∙◌, arith}
 use Rattle.std.proofs.lemmas.List.{length-map}
 use Rattle.source.specs.Content.{meaning}
 use Rattle.pen.proofs.Pens.{pen_none, ◌▷◌}
-use Rattle.property.specs.Fields.{at}
 use Rattle.property.specs.Lists.{indexed}
 use Rattle.form.proofs.Framings.{pen_closable, pen_frame}
 use Rattle.amend.specs.Tables.{count_after}

@@ -4,11 +4,11 @@ use Rattle.draft.proofs.Loading.{begin_fits, front_is, told_is}
 use Rattle.draft.proofs.Draft.begin.Goals as goal
 
 pub settle-requires : goal.settle-requires
-settle-requires c = begin_fits _ _ _ _ _ c.begin-within-result.ensures.outcome (omega arith)
+settle-requires c = begin_fits _ _ _ _ _ c.begin_within-result.ensures.outcome (omega arith)
 
 pub returns : goal.returns
 returns c =
-    let h = c.begin-within-result.ensures in
+    let h = c.begin_within-result.ensures in
     let s = c.settle.ensures in
     let e = front_is _ _ _ h.outcome h.form in
     record {

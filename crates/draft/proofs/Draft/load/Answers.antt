@@ -4,11 +4,11 @@ use Rattle.draft.proofs.Loading.{load_fits, front_is, told_is}
 use Rattle.draft.proofs.Draft.load.Goals as goal
 
 pub settle-requires : goal.settle-requires
-settle-requires g c = load_fits _ _ _ _ _ c.restate-within-result.ensures.outcome (omega arith)
+settle-requires g c = load_fits _ _ _ _ _ c.restate_within-result.ensures.outcome (omega arith)
 
 pub returns : goal.returns
 returns g c =
-    let h = c.restate-within-result.ensures in
+    let h = c.restate_within-result.ensures in
     let s = c.settle.ensures in
     let e = front_is _ _ _ h.outcome h.form in
     record {

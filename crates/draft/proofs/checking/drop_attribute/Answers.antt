@@ -9,27 +9,27 @@ use Rattle.draft.proofs.Ends.{attribute_named, target_got, held_at, drop_no_targ
 use Rattle.draft.proofs.Puts.{plain_dropped}
 use Rattle.draft.proofs.checking.drop_attribute.Goals as goal
 
-pub returns-in-err-target-there : goal.returns-in-err-target-there
-returns-in-err-target-there g c =
-    let p = err_from_is_err_and c.from-residual.result c.from-residual.ensures.1 in
-    let h = c.in-err-target-there.ensures in
+pub returns-in_err-target_there : goal.returns-in_err-target_there
+returns-in_err-target_there g c =
+    let p = err_from_is_err_and c.from_residual.result c.from_residual.ensures.1 in
+    let h = c.in_err-target_there.ensures in
     rw (p.1, p.2) (record { same = h.same; checks = drop_no_target _ _ _ _ h.value })
 
-pub returns-in-err-attribute : goal.returns-in-err-attribute
-returns-in-err-attribute g c =
-    let p = err_from_is_err_and c.from-residual-in-err-attribute.result c.from-residual-in-err-attribute.ensures.1 in
-    let t = c.in-ok-target-there.ensures in
+pub returns-in_err-attribute : goal.returns-in_err-attribute
+returns-in_err-attribute g c =
+    let p = err_from_is_err_and c.from_residual-in_err-attribute.result c.from_residual-in_err-attribute.ensures.1 in
+    let t = c.in_ok-target_there.ensures in
     let m = message_in (meaning (g.S.Source.content c.args.source.now)) in
     let (h, there) = target_got m c.args.target _ t.value in
-    rw (p.1, p.2) (record { same = t.same; checks = drop_unnamed m c.args.target c.args.id h there _ c.in-err-attribute.ensures })
+    rw (p.1, p.2) (record { same = t.same; checks = drop_unnamed m c.args.target c.args.id h there _ c.in_err-attribute.ensures })
 
 pub returns-in-Some : goal.returns-in-Some
 returns-in-Some g c =
-    let t = c.in-ok-target-there.ensures in
+    let t = c.in_ok-target_there.ensures in
     let m = message_in (meaning (g.S.Source.content c.args.source.now)) in
     let (h, there) = target_got m c.args.target _ t.value in
-    let is = c.in-ok-attribute.ensures in
-    let a = c.in-ok-attribute.attribute in
+    let is = c.in_ok-attribute.ensures in
+    let a = c.in_ok-attribute.attribute in
     let n = attribute_named c.args.target c.args.id may_drop a is in
     let r = c.in-Some.ensures in
     let (k, q, s) = r.value (plain_dropped c.args.target c.args.id a n) in
@@ -45,11 +45,11 @@ returns-in-Some g c =
 
 pub returns-in-None : goal.returns-in-None
 returns-in-None g c =
-    let t = c.in-ok-target-there.ensures in
+    let t = c.in_ok-target_there.ensures in
     let m = message_in (meaning (g.S.Source.content c.args.source.now)) in
     let (h, there) = target_got m c.args.target _ t.value in
-    let is = c.in-ok-attribute.ensures in
-    let a = c.in-ok-attribute.attribute in
+    let is = c.in_ok-attribute.ensures in
+    let a = c.in_ok-attribute.attribute in
     let n = attribute_named c.args.target c.args.id may_drop a is in
     let r = c.in-None.ensures in
     let q = r.value (plain_dropped c.args.target c.args.id a n) in

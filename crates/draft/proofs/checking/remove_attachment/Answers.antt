@@ -4,13 +4,13 @@ use Rattle.editing.specs.Amendments as spec
 use Rattle.draft.proofs.Ends.{attachment_not_there, attachment_there}
 use Rattle.draft.proofs.checking.remove_attachment.Goals as goal
 
-pub returns-in-err-target-there : goal.returns-in-err-target-there
-returns-in-err-target-there g c =
-    let p = err_from_is_err_and c.from-residual.result c.from-residual.ensures.1 in
-    let h = c.in-err-target-there.ensures in
+pub returns-in_err-target_there : goal.returns-in_err-target_there
+returns-in_err-target_there g c =
+    let p = err_from_is_err_and c.from_residual.result c.from_residual.ensures.1 in
+    let h = c.in_err-target_there.ensures in
     rw (p.1, p.2) (record { same = h.same; checks = attachment_not_there _ _ _ h.value })
 
 pub returns : goal.returns
 returns g c =
-    let h = c.in-ok-target-there.ensures in
+    let h = c.in_ok-target_there.ensures in
     record { same = h.same; checks = (_, c.to_attachments.ensures [] (spec.attachment_removed c.args.number) refl, attachment_there _ _ _ h.value, omega arith) }

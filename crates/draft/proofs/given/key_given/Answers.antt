@@ -6,7 +6,7 @@ pub returns-in-Ok : goal.returns-in-Ok
 returns-in-Ok c =
     let (s, m) = c.in-Ok.ensures in
     let z : min (length c.args.bytes.now) (length c.args.bytes.now) ≡ length c.args.bytes.now = omega arith in
-    rw (m, z, ← key_held c.args.bytes.now s) at c.one-key.ensures.reads
+    rw (m, z, ← key_held c.args.bytes.now s) at c.one_key.ensures.reads
 
 pub returns-in-Err : goal.returns-in-Err
 returns-in-Err c =

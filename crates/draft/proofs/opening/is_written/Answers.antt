@@ -7,8 +7,8 @@ use Rattle.form.specs.Restating.{restated, Restates}
 use Rattle.draft.proofs.Openings.{restated_size, restated_not, compared_written}
 use Rattle.draft.proofs.opening.is_written.Goals as goal
 
-pub slice-bounds-equal-end : goal.slice-bounds-equal-end
-slice-bounds-equal-end c =
+pub slice_bounds-equal-end : goal.slice_bounds-equal-end
+slice_bounds-equal-end c =
     let h = c.in-Ok-restate.ensures in
     let i = restated_size _ _ _ _ c.requires.room h.answers in
     search rules

@@ -1,4 +1,4 @@
-use Rattle.std.proofs.Common.{◌≡◌, ◌-◌, refl, ◌∙◌, arith}
+use Rattle.std.proofs.Common.{◌≡◌, ◌-◌, refl, arith}
 use Rattle.lookup.proofs.Saying.{says_contents, says_normal}
 use Rattle.lookup.proofs.attributes.message_row.Goals as goal
 

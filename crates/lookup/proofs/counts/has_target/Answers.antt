@@ -1,4 +1,4 @@
-use Rattle.std.proofs.Common.{◌≡◌, ltb, is_some, sym, ap, ◌∙◌}
+use Rattle.std.proofs.Common.{ltb, is_some, sym, ap, ◌∙◌}
 use Rattle.source.specs.Content.{meaning}
 use Rattle.message.specs.Sameness.{holding}
 use Rattle.lookup.specs.Finding.{message_in}

@@ -1,7 +1,5 @@
-use Rattle.std.proofs.Common.{sym, refl, ap, ◌∙◌, arith}
+use Rattle.std.proofs.Common.{refl, arith}
 use Rattle.source.specs.Content.{meaning}
-use Rattle.property.specs.Fields.{at}
-use Rattle.property.specs.Lists.{indexed}
 use Rattle.form.proofs.Found.{list_held}
 use Rattle.listform.proofs.ListForms.{list_in}
 use Rattle.lookup.proofs.Saying.{list_told, list_lost}

@@ -1,7 +1,4 @@
-use Rattle.std.proofs.Common.{◌≡◌, ◌-◌, sym, ◌∙◌, subst, arith}
-use Rattle.std.specs.List.{AllByRecursion}
-use Rattle.source.specs.Content.{meaning}
-use Rattle.form.specs.Targets.{Standing}
+use Rattle.std.proofs.Common.{◌≡◌, ◌-◌, arith}
 use Rattle.form.proofs.Tells.{message_listed}
 use Rattle.lookup.proofs.lists.message_list.Goals as goal
 

@@ -1,4 +1,4 @@
-use Rattle.std.proofs.Common.{◌≡◌, ◌<◌, ◌≤◌, length, sym, refl, ap, ◌∙◌, arith}
+use Rattle.std.proofs.Common.{◌<◌, ◌≤◌, length, refl, ap, ◌∙◌, arith}
 use Rattle.scan.proofs.Parts.{asked_got, asked_lost}
 use Rattle.source.specs.Content.{meaning}
 use Rattle.attribute.specs.Table.{attribute, recipients_id}

@@ -1,4 +1,4 @@
-use Rattle.std.proofs.Common.{◌≡◌, ◌<◌, ◌≤◌, length, sym, ap, ◌∙◌, subst, arith}
+use Rattle.std.proofs.Common.{◌<◌, length, sym, ap, ◌∙◌, subst, arith}
 use Rattle.source.specs.Content.{meaning}
 use Rattle.message.specs.Sameness.{nth}
 use Rattle.form.specs.Targets.{Readable}

@@ -1,4 +1,4 @@
-use Rattle.std.proofs.Common.{◌≡◌, ◌+◌, ◌*◌, ◌<◌, ◌≤◌, length, Some, sym, refl, ap, ◌∙◌, mul-le-mul, arith}
+use Rattle.std.proofs.Common.{◌≡◌, ◌+◌, ◌*◌, ◌≤◌, Some, sym, refl, ap, ◌∙◌, mul-le-mul, arith}
 use Rattle.source.specs.Bytes.{part}
 use Rattle.source.specs.Content.{meaning}
 use Rattle.scan.proofs.Parts.{asked_got, asked_lost}

@@ -1,4 +1,4 @@
-use Rattle.std.proofs.Common.{◌≡◌, ◌+◌, ◌<◌, ◌≤◌, length, Some, sym, ap, ◌∙◌, arith}
+use Rattle.std.proofs.Common.{◌≡◌, ◌+◌, length, Some, sym, ap, ◌∙◌, arith}
 use Rattle.source.specs.Bytes.{part, val}
 use Rattle.source.specs.Content.{meaning}
 use Rattle.scan.proofs.Parts.{asked_got, asked_lost}

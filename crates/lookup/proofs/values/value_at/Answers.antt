@@ -1,4 +1,4 @@
-use Rattle.std.proofs.Common.{◌≡◌, sym, refl, ap, ◌∙◌, subst}
+use Rattle.std.proofs.Common.{sym, refl, ap, ◌∙◌, subst}
 use Rattle.source.specs.Content.{meaning}
 use Rattle.property.specs.Kinds.{width}
 use Rattle.message.specs.Sameness.{nth}

@@ -1,4 +1,4 @@
-use Rattle.std.proofs.Common.{◌+◌, sym, ap, ◌∙◌, arith}
+use Rattle.std.proofs.Common.{◌+◌, ap, ◌∙◌, arith}
 use Rattle.scan.proofs.Parts.{asked_got, asked_lost}
 use Rattle.property.specs.Fields.{padded}
 use Rattle.listform.specs.Forms.{number_there}

@@ -1,4 +1,4 @@
-use Rattle.std.proofs.Common.{◌≡◌, ◌+◌, ◌<◌, ◌≤◌, length, refl, ◌∙◌, subst, arith}
+use Rattle.std.proofs.Common.{◌≡◌, ◌+◌, ◌<◌, length, refl, ◌∙◌, subst, arith}
 use Rattle.source.specs.Content.{meaning}
 use Rattle.property.specs.Values.{sized_value}
 use Rattle.lookup.specs.Listing.{Reaches}
