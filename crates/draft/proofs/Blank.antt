@@ -2,7 +2,7 @@
 use Rattle.std.proofs.Common.{◌≡◌, ℕ, ◌+◌, ◌/◌, ◌%◌, ◌<◌, ◌≤◌, true, false, List, [], ◌∷◌, ◌++◌, length, Ok, sym, refl, ap, arith}
 use Rattle.std.proofs.lemmas.Bool.{le-leb, lt-leb}
 use Rattle.source.specs.Content.{source_limit}
-use Rattle.source.specs.Outcome.{◌>>◌, refused}
+use Rattle.source.specs.Outcome.{refused}
 use Rattle.source.specs.declared.refusals.Reason.TheVariants.{ShortWork, FormTooLong}
 use Rattle.source.specs.Bytes.{le}
 use Rattle.scan.specs.Scans.{checksum}

@@ -1,32 +1,25 @@
 -- What an edit makes of a message, at each end of its checks.
-use Rattle.std.proofs.Common.{◌≡◌, ℕ, ◌+◌, ◌<◌, ◌≤◌, Bool, true, false, ◌||◌, ltb, leb, List, [], ◌∷◌, ◌++◌, length, is_some, IfOk, Some, None, Ok, Err, Option, sym, refl, ap, ◌∙◌, arith}
+use Rattle.std.proofs.Common.{◌≡◌, ℕ, ◌+◌, ◌<◌, ◌≤◌, Bool, List, length, is_some, IfOk, Some, None, Ok, Err, Option, sym, refl, ap, ◌∙◌, arith}
 use Rattle.std.proofs.lemmas.List.{take_all}
 use Rattle.std.proofs.lemmas.Bool.{le-leb, lt-leb}
 use Rattle.source.specs.Content.{source_limit}
 use Rattle.source.specs.Bytes.{part}
 use Rattle.source.specs.Outcome.{Outcome, ◌>>=◌, ◌>>◌, need, given, refused}
 use Rattle.scan.specs.Scans.{asked}
-use Rattle.source.specs.declared.refusals.Reason.TheVariants.{SourceTooLong, NotAdmitted, Limit, Missing}
-use Rattle.source.specs.declared.refusals.Refusal.{Refusal}
-use Rattle.source.proofs.Outcomes.{err_not_ok, ok_same}
-use Rattle.attribute.specs.Table.{attribute_of, rendering_id}
-use Rattle.attribute.specs.declared.Attribute.{Attribute}
+use Rattle.source.specs.declared.refusals.Reason.TheVariants.{SourceTooLong, NotAdmitted}
+use Rattle.source.proofs.Outcomes.{ok_same}
 use Rattle.attribute.specs.declared.Rule.{Rule}
-use Rattle.attribute.specs.declared.Rule.TheVariants as rule
-use Rattle.frame.specs.Stages.{attachment_limit}
-use Rattle.contents.specs.Contents.{Contents, means, admits, primary_number}
-use Rattle.index.specs.Keys.{Key}
+use Rattle.contents.specs.Contents.{Contents, means, admits}
 use Rattle.property.specs.Fields.{done}
-use Rattle.property.specs.Lists.{Property, list_limit, row_limit, one_property}
+use Rattle.property.specs.Lists.{Property, one_property}
 use Rattle.property.specs.Names.{one_key}
 use Rattle.stream.specs.Messages.{Message, Holding}
 use Rattle.message.specs.declared.Target.{Target}
 use Rattle.message.specs.declared.Target.TheVariants.{Message as to_message, Row as to_row, Attachment as to_attachment}
 use Rattle.message.specs.Sameness.{nth, row_holding, holding}
-use Rattle.editing.specs.Slots.{has_key}
-use Rattle.editing.specs.Targets.{with_holding, with_attributes, with_properties, may_put, may_drop, attribute_for}
-use Rattle.editing.specs.Edits.{put_attribute, put_property, drop_attribute, drop_property, add_row, add_attachment, remove_row, remove_attachment, held, given_contents, given_property, given_key, put_meaning, change}
-use Rattle.editing.specs.Amendments.{Slot, kept, put, dropped, Listing, same, with_property, less_key, Touch, touched, row_added, row_removed, attachment_added, attachment_removed, Amendment, amended, change_at, nth_list, to_target, to_page, to_rows, to_attachments}
+use Rattle.editing.specs.Targets.{with_holding}
+use Rattle.editing.specs.Edits.{held, given_contents, given_property, given_key}
+use Rattle.editing.specs.Amendments.{Touch, touched, amended, change_at, to_target}
 
 -- A change of one target is a change of what it holds.
 pub at_target : (m : Message) (t : Target) (h : Holding) (c : Touch) → holding m t ≡ Some h → amended (to_target t c) m ≡ with_holding m t (touched c h)

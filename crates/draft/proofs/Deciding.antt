@@ -1,10 +1,10 @@
 -- What loads decide, from what forms decide.
-use Rattle.std.proofs.Common.{◌≡◌, ℕ, ◌-◌, ◌≤◌, min, Bool, true, false, ◌&&◌, leb, ◌↔◌, List, ◌++◌, length, take, replicate, Ok, Err, Decides, sym, refl, ap, ◌∙◌, arith, rules}
+use Rattle.std.proofs.Common.{◌≡◌, ℕ, min, Bool, true, false, ◌&&◌, leb, List, length, take, replicate, Ok, Err, Decides, sym, refl, ap, ◌∙◌, arith, rules}
 use Rattle.std.specs.Str.{bytes_eq}
 use Rattle.std.proofs.lemmas.List.{places, same_lists, take_at, length-replicate}
 use Rattle.std.proofs.lemmas.Slice.Eq.{bytes_eq-Decides}
 use Rattle.source.specs.Content.{source_limit}
-use Rattle.source.specs.Outcome.{Outcome, ◌>>=◌, ◌>>◌, need, over}
+use Rattle.source.specs.Outcome.{Outcome, ◌>>=◌, ◌>>◌, need}
 use Rattle.source.specs.declared.refusals.Reason.TheVariants.{ShortWork, FormTooLong}
 use Rattle.source.specs.declared.refusals.Refusal.{Refusal}
 use Rattle.source.proofs.Outcomes.{err_not_ok, ok_same}
@@ -12,7 +12,7 @@ use Rattle.index.specs.declared.properties.PropertyRow.{PropertyRow}
 use Rattle.stream.specs.Messages.{Message, read}
 use Rattle.stream.specs.Writing.{written}
 use Rattle.stream.proofs.Judging.{told}
-use Rattle.message.specs.Sameness.{Same, Carries, SourceBytes}
+use Rattle.message.specs.Sameness.{Same, SourceBytes}
 use Rattle.message.proofs.Forms.{forms_decide}
 use Rattle.draft.specs.Drafts.{Memory, memory, enough, fitted, loaded, area_after, size_after, blank_row}
 use Rattle.draft.specs.Promise.{LoadsDecide, compared, next_load, Tells}

@@ -1,36 +1,32 @@
 -- What an edit makes of a message, at each end of its checks.
-use Rattle.std.proofs.Common.{◌≡◌, ℕ, ◌<◌, ◌≤◌, Bool, true, false, not, ◌||◌, eqb, ltb, ◌⊎◌, List, [], ◌∷◌, ◌++◌, length, is_some, Some, None, Ok, Err, Option, sym, refl, ap, ◌∙◌, inl, inr, arith}
+use Rattle.std.proofs.Common.{◌≡◌, ℕ, ◌<◌, ◌≤◌, Bool, true, false, not, ◌||◌, eqb, ltb, ◌⊎◌, List, length, Some, None, Ok, Err, Option, sym, refl, ap, ◌∙◌, inl, inr}
 use Rattle.std.proofs.lemmas.Bool.{both_ways, lt-ltb, le-ltb}
 use Rattle.source.specs.Content.{source_limit}
 use Rattle.source.specs.Outcome.{Outcome, ◌>>=◌, ◌>>◌, need, given, refused}
 use Rattle.source.specs.declared.refusals.Reason.TheVariants.{Level, UnknownId, Misplaced, NotAdmitted, Limit, Missing}
 use Rattle.source.specs.declared.refusals.Refusal.{Refusal}
-use Rattle.source.proofs.Outcomes.{err_not_ok, ok_same, over_got, over_lost}
-use Rattle.scan.specs.Texts.{also}
-use Rattle.attribute.specs.Table.{attribute_of, rendering_id}
+use Rattle.source.proofs.Outcomes.{err_not_ok, over_got, over_lost}
+use Rattle.attribute.specs.Table.{attribute_of}
 use Rattle.attribute.specs.declared.Attribute.{Attribute}
 use Rattle.attribute.specs.declared.Rule.{Rule}
 use Rattle.attribute.specs.declared.Rule.TheVariants as rule
 use Rattle.frame.specs.Stages.{attachment_limit}
-use Rattle.contents.specs.Contents.{Contents, means, code_page, code_page_in, primary_number}
+use Rattle.contents.specs.Contents.{Contents, means}
 use Rattle.index.specs.Keys.{Key}
 use Rattle.property.specs.Fields.{done}
 use Rattle.property.specs.Lists.{Property, list_limit, row_limit}
-use Rattle.property.specs.Rows.{Carries}
-use Rattle.stream.specs.Reading.{nature, plain}
 use Rattle.stream.specs.Messages.{Message, Holding}
 use Rattle.message.specs.declared.Target.{Target}
 use Rattle.message.specs.declared.Target.TheVariants.{Row as to_row, Attachment as to_attachment}
 use Rattle.message.specs.Sameness as sameness
 use Rattle.message.specs.Sameness.{nth, row_holding, holding}
 use Rattle.message.proofs.FrameReads.{id_of}
-use Rattle.form.specs.Holdings.{Natured}
-use Rattle.editing.specs.Slots.{has_key, without_nth}
-use Rattle.editing.specs.Targets.{Use, free, fixed, hidden, use_of, with_holding, with_attributes, with_properties, target_level, may_put, may_drop, attribute_for}
+use Rattle.editing.specs.Slots.{has_key}
+use Rattle.editing.specs.Targets.{Use, use_of, target_level, may_put, may_drop, attribute_for}
 use Rattle.editing.specs.Edits.{put_attribute, put_property, drop_attribute, drop_property, add_row, add_attachment, remove_row, remove_attachment, given_contents, given_property, given_key, put_meaning, change}
 use Rattle.editing.specs.Amendments as spec
 use Rattle.editing.specs.Amendments.{amended, to_target, to_page, to_rows, to_attachments}
-use Rattle.draft.specs.Checks.{NamedFor, put_amended}
+use Rattle.draft.specs.Checks.{NamedFor}
 use Rattle.draft.proofs.Changing.{at_target, contents_held}
 
 got : {A : Type 0} (o : Outcome A) (u : Unit {0}) → Ok u ≡ done o → (a : A) × (o ≡ Ok a)

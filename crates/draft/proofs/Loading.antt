@@ -1,7 +1,6 @@
 -- A load, from what restating gives.
-use Rattle.std.proofs.Common.{◌≡◌, ℕ, ◌+◌, ◌-◌, ◌<◌, ◌≤◌, Bool, true, false, ◌&&◌, leb, ◌⊎◌, List, [], ◌∷◌, ◌++◌, length, take, drop, replicate, IfOk, Ok, Err, Result, sym, refl, ap, ◌∙◌, inl, inr, arith, rules}
-use borrow.Rule.Slice.PartMut.{post_of, put_mid}
-use Rattle.std.proofs.lemmas.List.{places, same_lists, take-append-le, length-take}
+use Rattle.std.proofs.Common.{◌≡◌, ℕ, ◌<◌, ◌≤◌, Bool, true, false, ◌&&◌, leb, ◌⊎◌, List, ◌++◌, length, take, IfOk, Ok, Err, Result, sym, refl, ap, ◌∙◌, inl, inr, arith}
+use Rattle.std.proofs.lemmas.List.{take-append-le}
 use Rattle.std.proofs.lemmas.Bool.{le-leb, lt-leb, and_from, and_left, and_right, and_parts, leb-true}
 use Rattle.source.specs.Content.{source_limit}
 use Rattle.source.specs.Outcome.{Outcome, ◌>>=◌, ◌>>◌, need, over, refused}
@@ -100,7 +99,7 @@ module _ (w : Memory) (room : ℕ) where
       by_memory true t e = (by_read o e, leb-true room w.bytes (and_parts _ _ t).0)
       by_memory false t e = absurd (err_not_ok (sym e))
 
-  made_fits : (o : Outcome Message) (size : ℕ) (r : Result ℕ Refusal) → r ≡ over length (written_by o) → w.bytes ≤ size
+  pub made_fits : (o : Outcome Message) (size : ℕ) (r : Result ℕ Refusal) → r ≡ over length (written_by o) → w.bytes ≤ size
       → IfOk r (λ n. (n ≤ room) × (n ≤ size))
   made_fits o size (Ok n) e h = let f = fits o n e in (f.0, omega (arith, f.0, f.1))
   made_fits o size (Err x) e h = tt

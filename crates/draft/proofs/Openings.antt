@@ -1,13 +1,13 @@
 -- Whether a draft is a written form, from what restating it gives.
-use Rattle.std.proofs.Common.{◌≡◌, ℕ, ◌<◌, ◌≤◌, Bool, true, false, ◌&&◌, leb, ◌⊎◌, List, length, take, Some, None, Ok, Err, sym, refl, ap, ◌∙◌, inl, inr, arith, rules}
+use Rattle.std.proofs.Common.{◌≡◌, ℕ, ◌<◌, ◌≤◌, Bool, true, false, ◌&&◌, leb, ◌⊎◌, List, length, take, None, Ok, Err, sym, refl, ap, ◌∙◌, inl, inr, arith}
 use Rattle.std.specs.Str.{bytes_eq}
 use Rattle.std.proofs.lemmas.Slice.Eq.{bytes_eq-Decides}
-use Rattle.std.proofs.lemmas.Bool.{le-leb, lt-leb, and_from, and_left, and_right, and_parts, leb-true, cases_Bool, both_ways}
+use Rattle.std.proofs.lemmas.Bool.{le-leb, lt-leb, and_from, and_left, and_right, and_parts, leb-true, both_ways}
 use Rattle.source.specs.Content.{source_limit}
-use Rattle.source.specs.Outcome.{Outcome, ◌>>=◌, ◌>>◌, need, given, over, refused}
+use Rattle.source.specs.Outcome.{Outcome, ◌>>=◌, ◌>>◌, need, given, refused}
 use Rattle.source.specs.declared.refusals.Reason.TheVariants.{ShortWork, NotWritten, FormTooLong}
 use Rattle.source.specs.declared.refusals.Refusal.{Refusal}
-use Rattle.source.proofs.Outcomes.{err_not_ok, ok_same}
+use Rattle.source.proofs.Outcomes.{err_not_ok}
 use Rattle.contents.specs.Options.{where_true}
 use Rattle.property.specs.Fields.{done}
 use Rattle.property.specs.Lists.{list_limit}
@@ -16,7 +16,6 @@ use Rattle.stream.specs.Writing.{written}
 use Rattle.form.specs.Restating.{fitted, restated, Restates}
 use Rattle.draft.specs.Drafts.{Memory, enough}
 use Rattle.draft.specs.Calls.{State, form, if_written, opened}
-use Rattle.draft.proofs.Loading.{is_enough}
 
 -- Restated in as many rows as a list has properties.
 restated_as : (xs : List ℕ) (rows size : ℕ) → list_limit ≤ rows → restated xs rows size ≡ (read xs >>= fitted size)

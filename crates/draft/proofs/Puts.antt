@@ -1,7 +1,6 @@
 -- What putting an attribute amends.
-use Rattle.std.proofs.Common.{◌≡◌, ℕ, true, false, List, Some, None, Ok, Err, Option, sym, refl, ap, ◌∙◌, arith}
+use Rattle.std.proofs.Common.{◌≡◌, ℕ, true, false, List, Some, None, Option, refl, ap, ◌∙◌, arith}
 use Rattle.std.proofs.lemmas.Bool.{both_ways}
-use Rattle.source.specs.Outcome.{◌>>=◌}
 use Rattle.scan.specs.Texts.{also}
 use Rattle.attribute.specs.Table.{attribute_of}
 use Rattle.attribute.specs.declared.Attribute.{Attribute}
@@ -13,12 +12,12 @@ use Rattle.stream.specs.Messages.{Message, Holding}
 use Rattle.message.specs.declared.Target.{Target}
 use Rattle.message.specs.Sameness.{holding}
 use Rattle.message.proofs.FrameReads.{id_of}
-use Rattle.form.specs.Holdings.{Natured, Plain}
-use Rattle.editing.specs.Targets.{use_of, may_put, may_drop, with_holding}
+use Rattle.form.specs.Holdings.{Plain}
+use Rattle.editing.specs.Targets.{use_of, may_put, may_drop}
 use Rattle.editing.specs.Edits.{put_meaning}
 use Rattle.editing.specs.Amendments as spec
 use Rattle.editing.specs.Amendments.{amended, to_target}
-use Rattle.amend.specs.Changes.{SlotMeans, TouchMeans}
+use Rattle.amend.specs.Changes.{TouchMeans}
 use Rattle.amend.specs.declared.changes.Slot.TheVariants.{Put}
 use Rattle.amend.specs.declared.changes.Listing.TheVariants.{Same}
 use Rattle.draft.specs.Checks.{NamedFor, put_amended}

@@ -1,9 +1,9 @@
 -- What is written for an amended message, and for an edit.
-use Rattle.std.proofs.Common.{◌≡◌, ℕ, ◌-◌, ◌<◌, ◌≤◌, min, Bool, true, false, ◌&&◌, leb, List, ◌++◌, length, take, Some, None, Ok, Err, Option, sym, refl, ap, ◌∙◌, arith}
+use Rattle.std.proofs.Common.{◌≡◌, ℕ, ◌-◌, ◌<◌, ◌≤◌, min, Bool, true, false, ◌&&◌, leb, List, ◌++◌, length, take, Some, None, IfOk, Ok, Err, Option, Result, sym, refl, ap, ◌∙◌, arith}
 use Rattle.std.specs.Str.{bytes_eq}
 use Rattle.std.proofs.lemmas.Slice.Eq.{bytes_eq-Decides}
-use Rattle.std.proofs.lemmas.List.{length-take, take-append-le}
-use Rattle.std.proofs.lemmas.Bool.{le-leb, and_parts, leb-true}
+use Rattle.std.proofs.lemmas.List.{take-append-le}
+use Rattle.std.proofs.lemmas.Bool.{and_parts, leb-true}
 use Rattle.std.proofs.lemmas.Bool.Decides.{nat_tests}
 use Rattle.source.specs.Content.{source_limit}
 use Rattle.source.specs.Outcome.{Outcome, ◌>>=◌, ◌>>◌, need, given, over, refused}
@@ -15,7 +15,7 @@ use Rattle.frame.specs.declared.stages.Stage.TheVariants.{Version}
 use Rattle.pen.specs.Pen.{Penned}
 use Rattle.property.specs.Fields.{done}
 use Rattle.property.specs.Lists.{list_limit}
-use Rattle.stream.specs.Reading.{Entry, entries_of}
+use Rattle.stream.specs.Reading.{entries_of}
 use Rattle.stream.specs.Messages.{Message, message_of, read}
 use Rattle.stream.specs.Writing.{written}
 use Rattle.form.specs.Targets.{Readable}
@@ -24,6 +24,7 @@ use Rattle.editing.specs.Edits.{Edit, change}
 use Rattle.lookup.specs.Finding.{message_in}
 use Rattle.draft.specs.Drafts.{Memory, enough, fitted, Front}
 use Rattle.draft.specs.Calls.{State, form, if_written, opened, edited}
+use Rattle.draft.proofs.Loading.{written_by, made_fits, is_enough}
 
 -- A message that was written where there was room, or that found none.
 module _ (room : ℕ) (m : Message) (before after rest : List ℕ) (h : length before ≡ min room source_limit) where
@@ -123,3 +124,15 @@ module _ (w : Memory) (d : State) (e : Edit) where
   pub edit_fitted : (m n : Message) → opened w d ≡ Ok m → change e m ≡ Ok n → edited w d e ≡ fitted (length d.area) n
   unfolding edited ◌>>=◌
   edit_fitted m n o q = rw (o, q)
+
+  -- A form that an edit writes fits the area, and the work bytes.
+  pub edit_fits : (size : ℕ) (r : Result ℕ Refusal) → r ≡ over length (edited w d e) → w.bytes ≤ size → IfOk r (λ n. (n ≤ length d.area) × (n ≤ size))
+  unfolding edited written_by ◌>>=◌ ◌>>◌
+  edit_fits size r q h = by_opened (opened w d) refl q
+    where
+      by_opened : (o : Outcome Message) → opened w d ≡ o → r ≡ over length (o >>= (λ m. change e m >>= (λ n. fitted (length d.area) n))) → IfOk r (λ n. (n ≤ length d.area) × (n ≤ size))
+      by_opened (Ok m) o q =
+          let (_, k) = opened_got w d tt (ap done (sym o)) in
+          let t = is_enough w (length d.area) k.bytes_enough k.rows_enough in
+          made_fits w (length d.area) (change e m) size r (rw t q) h
+      by_opened (Err x) o q = rw q tt

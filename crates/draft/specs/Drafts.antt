@@ -1,5 +1,5 @@
 -- What a call that changes a draft writes into it, and what it leaves.
-use Rattle.std.specs.Prelude.{◌≡◌, ℕ, ◌-◌, Bool, true, false, ◌&&◌, List, [], ◌∷◌, ◌++◌, length, take, replicate, None, Ok, Err, Result, nat_le}
+use Rattle.std.specs.Prelude.{◌≡◌, ℕ, ◌-◌, Bool, ◌&&◌, List, [], ◌++◌, length, take, replicate, None, Ok, Err, nat_le}
 use Rattle.source.specs.Content.{source_limit}
 use Rattle.source.specs.Outcome.{Outcome, ◌>>=◌, ◌>>◌, need}
 use Rattle.source.specs.declared.refusals.Reason.TheVariants.{ShortWork, FormTooLong}

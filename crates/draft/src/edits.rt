@@ -8,6 +8,7 @@ ghost use Rattle.draft.specs.Checks.{edit_of};
 
 use crate::rewriting::edit_within;
 use crate::{Draft, Work};
+use index::PropertyRow;
 use message::Target;
 use source::Refusal;
 
@@ -25,17 +26,27 @@ pub enum Edit<'a> {
 }
 
 impl Draft<'_> {
-    // What an edit makes of the draft; a refusal leaves it as it was.
-    fn edit(&mut self, work: Work<'_>, what: Edit<'_>) -> Result<(), Refusal>
-        ensures outcome { result ≡ over (λ _. tt) (edited (memory work.entry.bytes.now work.entry.rows.now) (state self.old.area.now self.old.size) (edit_of what.entry)) }
-        ensures area { self.new.area.now ≡ area_after (edited (memory work.entry.bytes.now work.entry.rows.now) (state self.old.area.now self.old.size) (edit_of what.entry)) self.old.area.now }
-        ensures size { self.new.size ≡ size_after (edited (memory work.entry.bytes.now work.entry.rows.now) (state self.old.area.now self.old.size) (edit_of what.entry)) self.old.size }
-        ensures bytes { work.exit.0.now ≡ replicate (length work.entry.bytes.now) 0 }
-        ensures rows { work.exit.1.0.now ≡ replicate (length work.entry.rows.now) blank_row }
+    fn whole(&self) -> &[u8]
+        ensures { result.now ≡ self.now.area.now }
     {
-        let Work { bytes, rows } = work;
+        self.area
+    }
+
+    // What an edit makes of the draft; a refusal leaves it as it was.
+    fn edit(
+        &mut self,
+        bytes: &mut [u8],
+        rows: &mut [PropertyRow],
+        what: Edit<'_>,
+    ) -> Result<(), Refusal>
+        ensures outcome { result ≡ over (λ _. tt) (edited (memory bytes.old rows.old) (state self.old.area.now self.old.size) (edit_of what.entry)) }
+        ensures area { self.new.area.now ≡ area_after (edited (memory bytes.old rows.old) (state self.old.area.now self.old.size) (edit_of what.entry)) self.old.area.now }
+        ensures size { self.new.size ≡ size_after (edited (memory bytes.old rows.old) (state self.old.area.now self.old.size) (edit_of what.entry)) self.old.size }
+        ensures bytes { bytes.new ≡ replicate (length bytes.old) 0 }
+        ensures rows { rows.new ≡ replicate (length rows.old) blank_row }
+    {
         let size = self.size;
-        let result = edit_within(self.area, size, what, bytes, rows);
+        let result = edit_within(self.whole(), size, what, bytes, rows);
         self.settle(result, bytes, rows)
     }
 
@@ -53,7 +64,8 @@ impl Draft<'_> {
         ensures bytes { work.exit.0.now ≡ replicate (length work.entry.bytes.now) 0 }
         ensures rows { work.exit.1.0.now ≡ replicate (length work.entry.rows.now) blank_row }
     {
-        self.edit(work, Edit::PutAttribute(target, id, bytes))
+        let Work { bytes: spare, rows } = work;
+        self.edit(spare, rows, Edit::PutAttribute(target, id, bytes))
     }
 
     // Puts one property: in the place of the one that has its key, or at the end of the list.
@@ -69,7 +81,8 @@ impl Draft<'_> {
         ensures bytes { work.exit.0.now ≡ replicate (length work.entry.bytes.now) 0 }
         ensures rows { work.exit.1.0.now ≡ replicate (length work.entry.rows.now) blank_row }
     {
-        self.edit(work, Edit::PutProperty(target, bytes))
+        let Work { bytes: spare, rows } = work;
+        self.edit(spare, rows, Edit::PutProperty(target, bytes))
     }
 
     // Drops what the target has under the id.
@@ -80,7 +93,8 @@ impl Draft<'_> {
         ensures bytes { work.exit.0.now ≡ replicate (length work.entry.bytes.now) 0 }
         ensures rows { work.exit.1.0.now ≡ replicate (length work.entry.rows.now) blank_row }
     {
-        self.edit(work, Edit::DropAttribute(target, id))
+        let Work { bytes: spare, rows } = work;
+        self.edit(spare, rows, Edit::DropAttribute(target, id))
     }
 
     // Drops the property whose id and name are given as in a list.
@@ -96,7 +110,8 @@ impl Draft<'_> {
         ensures bytes { work.exit.0.now ≡ replicate (length work.entry.bytes.now) 0 }
         ensures rows { work.exit.1.0.now ≡ replicate (length work.entry.rows.now) blank_row }
     {
-        self.edit(work, Edit::DropProperty(target, bytes))
+        let Work { bytes: spare, rows } = work;
+        self.edit(spare, rows, Edit::DropProperty(target, bytes))
     }
 
     // Adds an empty row behind the others.
@@ -107,7 +122,8 @@ impl Draft<'_> {
         ensures bytes { work.exit.0.now ≡ replicate (length work.entry.bytes.now) 0 }
         ensures rows { work.exit.1.0.now ≡ replicate (length work.entry.rows.now) blank_row }
     {
-        self.edit(work, Edit::AddRow)
+        let Work { bytes: spare, rows } = work;
+        self.edit(spare, rows, Edit::AddRow)
     }
 
     // Adds an attachment with this rendering behind the others.
@@ -118,7 +134,8 @@ impl Draft<'_> {
         ensures bytes { work.exit.0.now ≡ replicate (length work.entry.bytes.now) 0 }
         ensures rows { work.exit.1.0.now ≡ replicate (length work.entry.rows.now) blank_row }
     {
-        self.edit(work, Edit::AddAttachment(bytes))
+        let Work { bytes: spare, rows } = work;
+        self.edit(spare, rows, Edit::AddAttachment(bytes))
     }
 
     // Removes a row; those behind it move up.
@@ -129,7 +146,8 @@ impl Draft<'_> {
         ensures bytes { work.exit.0.now ≡ replicate (length work.entry.bytes.now) 0 }
         ensures rows { work.exit.1.0.now ≡ replicate (length work.entry.rows.now) blank_row }
     {
-        self.edit(work, Edit::RemoveRow(number))
+        let Work { bytes: spare, rows } = work;
+        self.edit(spare, rows, Edit::RemoveRow(number))
     }
 
     // Removes an attachment; those behind it move up.
@@ -140,6 +158,7 @@ impl Draft<'_> {
         ensures bytes { work.exit.0.now ≡ replicate (length work.entry.bytes.now) 0 }
         ensures rows { work.exit.1.0.now ≡ replicate (length work.entry.rows.now) blank_row }
     {
-        self.edit(work, Edit::RemoveAttachment(number))
+        let Work { bytes: spare, rows } = work;
+        self.edit(spare, rows, Edit::RemoveAttachment(number))
     }
 }

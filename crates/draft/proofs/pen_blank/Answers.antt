@@ -1,4 +1,3 @@
-use Rattle.std.proofs.Common.{◌≡◌, sym, ap, ◌∙◌}
 use Rattle.pen.proofs.Pens.{◌▷◌}
 use Rattle.draft.proofs.Blank.{blank_form}
 use Rattle.draft.proofs.pen_blank.Goals as goal

@@ -1,4 +1,3 @@
-use Rattle.std.proofs.Common.{◌≡◌, refl}
 use Rattle.draft.proofs.Puts.{page_contents, held_by_target, put_means}
 use Rattle.draft.proofs.amending.to_put.Goals as goal
 

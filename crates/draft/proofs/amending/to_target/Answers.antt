@@ -1,4 +1,4 @@
-use Rattle.std.proofs.Common.{◌≡◌, refl}
+use Rattle.std.proofs.Common.{refl}
 use Rattle.draft.proofs.amending.to_target.Goals as goal
 
 pub returns-in-Row : goal.returns-in-Row

@@ -1,6 +1,5 @@
-use Rattle.std.proofs.Common.{◌≡◌, ◌≤◌, [], sym, refl, ap, ◌∙◌, arith}
+use Rattle.std.proofs.Common.{[], arith}
 use Rattle.std.proofs.lemmas.Bool.{lt-ltb, le-ltb}
-use Rattle.property.specs.Lists.{row_limit}
 use Rattle.editing.specs.Amendments as spec
 use Rattle.draft.proofs.Ends.{row_full, row_put}
 use Rattle.draft.proofs.checking.add_row.Goals as goal

@@ -1,4 +1,4 @@
-use Rattle.std.proofs.Common.{◌≡◌, [], sym, refl, ap, ◌∙◌, arith}
+use Rattle.std.proofs.Common.{[], sym, refl, ap, ◌∙◌, arith}
 use Rattle.message.specs.Sameness.{contents_held, holding}
 use Rattle.std.proofs.lemmas.Result.{err_from_is_err_and}
 use Rattle.source.specs.Content.{meaning}

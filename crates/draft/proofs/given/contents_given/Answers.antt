@@ -1,28 +1,26 @@
-use Rattle.std.proofs.Common.{◌≡◌, true, false, length, Ok, Err, sym, refl, ap, ◌∙◌}
-use Rattle.std.proofs.lemmas.Result.{err_from_is_err_and}
+use Rattle.std.proofs.Common.{true, false, sym, ap, ◌∙◌}
 use Rattle.source.proofs.Outcomes.{err_not_ok}
-use Rattle.scan.specs.Scans.{asked}
 use Rattle.contents.specs.Contents.{admits}
 use Rattle.property.specs.Fields.{done}
 use Rattle.draft.proofs.Changing.{asked_whole, contents_judged, contents_long}
 use Rattle.draft.proofs.given.contents_given.Goals as goal
 
-pub returns-in_err-good : goal.returns-in_err-good
-returns-in_err-good c =
+pub returns-in_err-good-in-Ok : goal.returns-in_err-good-in-Ok
+returns-in_err-good-in-Ok c =
     let m = c.in-Ok.ensures.1 in
-    let h = rw m at c.in_err-good.ensures.value in
+    let h = rw m at c.in_err-good-in-Ok.ensures.value in
     absurd (err_not_ok (h ∙ asked_whole (admits c.args.rule) c.args.bytes.now))
 
 pub returns-then-not-good : goal.returns-then-not-good
 returns-then-not-good c =
     let (s, m) = c.in-Ok.ensures in
-    let h = rw m at c.in_ok-good.ensures.value in
+    let h = rw m at c.in_ok-good-in-Ok.ensures.value in
     record { judged = contents_judged c.args.rule c.args.bytes.now false s (rw c.if-not-good.true at h); short = tt }
 
 pub returns-else-not-good : goal.returns-else-not-good
 returns-else-not-good c =
     let (s, m) = c.in-Ok.ensures in
-    let h = rw m at c.in_ok-good.ensures.value in
+    let h = rw m at c.in_ok-good-in-Ok.ensures.value in
     record { judged = contents_judged c.args.rule c.args.bytes.now true s (rw c.if-not-good.false at h); short = s }
 
 pub returns-in-Err : goal.returns-in-Err

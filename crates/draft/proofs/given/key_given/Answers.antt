@@ -1,4 +1,4 @@
-use Rattle.std.proofs.Common.{◌≡◌, min, length, sym, refl, ap, ◌∙◌, arith}
+use Rattle.std.proofs.Common.{◌≡◌, min, length, sym, arith}
 use Rattle.draft.proofs.Changing.{key_held, key_long}
 use Rattle.draft.proofs.given.key_given.Goals as goal
 

@@ -1,4 +1,4 @@
-use Rattle.std.proofs.Common.{◌≡◌, min, length, Ok, Err, Result, sym, refl, ap, ◌∙◌, arith}
+use Rattle.std.proofs.Common.{◌≡◌, min, length, arith}
 use Rattle.draft.proofs.Changing.{made_any, property_held, property_long}
 use Rattle.draft.proofs.given.property_given.Goals as goal
 

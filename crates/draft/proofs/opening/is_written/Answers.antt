@@ -1,9 +1,9 @@
-use Rattle.std.proofs.Common.{◌≡◌, ◌-◌, ◌≤◌, true, false, length, take, Ok, Err, sym, refl, ap, ◌∙◌, arith, rules}
+use Rattle.std.proofs.Common.{◌≡◌, ◌-◌, true, false, length, take, Err, sym, ap, arith, rules}
 use Rattle.std.specs.Str.{bytes_eq}
 use Rattle.source.specs.Outcome.{given}
 use Rattle.source.specs.declared.refusals.Reason.TheVariants.{NotWritten}
 use Rattle.property.specs.Fields.{done}
-use Rattle.form.specs.Restating.{restated, Restates}
+use Rattle.form.specs.Restating.{restated}
 use Rattle.draft.proofs.Openings.{restated_size, restated_not, compared_written}
 use Rattle.draft.proofs.opening.is_written.Goals as goal
 

@@ -1,4 +1,4 @@
-use Rattle.std.proofs.Common.{◌≡◌, ◌-◌, ◌<◌, ◌≤◌, ◌⊎◌, length, take, sym, refl, ap, ◌∙◌, inl, inr, arith, rules}
+use Rattle.std.proofs.Common.{◌≡◌, ◌-◌, ◌<◌, ◌≤◌, ◌⊎◌, length, ◌∙◌, inl, inr, arith}
 use Rattle.source.specs.Content.{source_limit}
 use Rattle.property.specs.Lists.{list_limit}
 use Rattle.draft.specs.Drafts.{memory}

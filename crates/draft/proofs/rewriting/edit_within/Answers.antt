@@ -1,7 +1,7 @@
-use Rattle.std.proofs.Common.{◌≡◌, ◌-◌, ◌≤◌, length, take, Ok, sym, refl, ap, ◌∙◌, subst, arith, rules}
-use Rattle.std.proofs.lemmas.List.{places, length-take}
+use Rattle.std.proofs.Common.{◌≡◌, ◌-◌, ◌≤◌, length, Ok, sym, ap, ◌∙◌, subst, arith, rules}
+use Rattle.std.proofs.lemmas.List.{length-take}
 use Rattle.std.proofs.lemmas.Result.{err_from_is_err_and}
-use Rattle.source.specs.Content.{meaning}
+use Rattle.source.specs.Content.{Content, meaning}
 use Rattle.frame.specs.declared.stages.Stage.TheVariants.{Version}
 use Rattle.form.specs.Targets.{Readable}
 use Rattle.editing.specs.Edits.{change}
@@ -12,7 +12,7 @@ use Rattle.source.specs.Outcome.{over}
 use Rattle.draft.specs.Drafts.{memory, fitted, Front}
 use Rattle.draft.specs.Calls.{state, form}
 use Rattle.draft.specs.Checks.{edit_of}
-use Rattle.draft.proofs.Rewritten.{Open, opened_got, read_good, held_form, edit_unopened, edit_refused, edit_fitted}
+use Rattle.draft.proofs.Rewritten.{opened_got, read_good, held_form, edit_unopened, edit_refused, edit_fitted}
 use Rattle.draft.proofs.rewriting.edit_within.Goals as goal
 
 pub returns-in_err-open : goal.returns-in_err-open
@@ -37,15 +37,15 @@ check-requires c =
     let e = held_form c.args.area.now c.args.size _ c.in-Ok.ensures.1 in
     record { good = rw e good; room = omega (arith, o.rows_enough, c.open.auto.rows) }
 
-pub returns-in_err-amendment : goal.returns-in_err-amendment
-returns-in_err-amendment c =
-    let p = err_from_is_err_and c.from_residual-in_err-amendment.result c.from_residual-in_err-amendment.ensures.1 in
+pub returns-in_err-amendment-in-Ok : goal.returns-in_err-amendment-in-Ok
+returns-in_err-amendment-in-Ok c =
+    let p = err_from_is_err_and c.from_residual-in_err-amendment-in-Ok.result c.from_residual-in_err-amendment-in-Ok.ensures.1 in
     let w = memory c.args.bytes.now c.args.rows.now in
     let d = state c.args.area.now c.args.size in
     let (m, o) = opened_got w d _ c.in_ok-open.ensures in
     let (good, is) = read_good (form d) m o.reads in
     let e = held_form c.args.area.now c.args.size _ c.in-Ok.ensures.1 in
-    let q = rw (e, is) at c.in_err-amendment.ensures.checks in
+    let q = rw (e, is) at c.in_err-amendment-in-Ok.ensures.checks in
     let f = edit_refused w d (edit_of c.args.edit) m _ o.is q in
     rw (p.1, p.2) (record { outcome = sym (ap (over length) f); form = rw f tt })
 
@@ -55,7 +55,7 @@ rewrite-requires c =
     let (m, o) = opened_got (memory c.args.bytes.now c.args.rows.now) d _ c.in_ok-open.ensures in
     let (good, is) = read_good (form d) m o.reads in
     let e = held_form c.args.area.now c.args.size _ c.in-Ok.ensures.1 in
-    let k = c.in_ok-amendment.ensures in
+    let k = c.in_ok-amendment-in-Ok.ensures in
     let (s, means, changed, short) = k.checks in
     let p = c.put_by.ensures in
     record {
@@ -66,19 +66,19 @@ rewrite-requires c =
       lent = omega (arith, o.rows_enough, c.open.auto.rows, c.check.auto.rows);
     }
 
-pub returns-in_ok-amendment : goal.returns-in_ok-amendment
-returns-in_ok-amendment c =
+pub returns-in_ok-amendment-in-Ok : goal.returns-in_ok-amendment-in-Ok
+returns-in_ok-amendment-in-Ok c =
     let w = memory c.args.bytes.now c.args.rows.now in
     let d = state c.args.area.now c.args.size in
     let (m, o) = opened_got w d _ c.in_ok-open.ensures in
     let (good, is) = read_good (form d) m o.reads in
     let e = held_form c.args.area.now c.args.size _ c.in-Ok.ensures.1 in
-    let k = c.in_ok-amendment.ensures in
+    let k = c.in_ok-amendment-in-Ok.ensures in
     let (s, means, changed, short) = k.checks in
-    let n : message_in (meaning _) ≡ m = ap (λ l. message_in (meaning l)) k.same ∙ ap message_in e ∙ is in
-    let there : message_in _ ≡ m = ap message_in e ∙ is in
+    let n = ap (λ (l : Content). message_in (meaning l)) k.same ∙ ap message_in e ∙ is in
+    let there = ap message_in e ∙ is in
     let f = edit_fitted w d (edit_of c.args.edit) m (amended s m) o.is (subst (λ x. change (edit_of c.args.edit) x ≡ Ok (amended s x)) there changed) in
-    let a = subst (λ l. AmendmentMeans l c.in_ok-amendment.amendment s) (sym c.put_by.ensures) means in
+    let a = subst (λ l. AmendmentMeans l c.in_ok-amendment-in-Ok.amendment s) (sym c.put_by.ensures) means in
     record {
       outcome = c.rewrite.ensures.outcome s a ∙ ap (λ x. over length (fitted (length c.args.area.now) (amended s x))) n ∙ sym (ap (over length) f);
       form = subst (λ x. Front x c.rewrite.new.bytes) (sym f) (subst (λ x. Front (fitted (length c.args.area.now) (amended s x)) c.rewrite.new.bytes) n (c.rewrite.ensures.form s a));

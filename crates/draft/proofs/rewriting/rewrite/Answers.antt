@@ -1,5 +1,5 @@
-use Rattle.std.proofs.Common.{◌≡◌, ◌-◌, min, [], length, take, sym, refl, ap, ◌∙◌, arith, rules}
-use Rattle.std.proofs.lemmas.List.{places, length-take}
+use Rattle.std.proofs.Common.{◌≡◌, ◌-◌, min, [], length, take, sym, ap, arith}
+use Rattle.std.proofs.lemmas.List.{length-take}
 use Rattle.source.specs.Content.{source_limit}
 use Rattle.source.specs.Outcome.{over}
 use Rattle.draft.proofs.Rewritten.{wrote_form, wrote_front, wrote_nothing}
