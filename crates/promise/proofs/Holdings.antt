@@ -2,7 +2,6 @@
 use Rattle.std.proofs.Common.{◌≡◌, ℕ, true, false, not, eqb, List, length, Some, None, Option, sym, refl, ap, ◌∙◌, arith}
 use mathlib.Core.Path.{fun_ext}
 use Rattle.std.proofs.lemmas.Bool.{both_ways, eqb-true, eqb-false, eq-eqb}
-use Rattle.attribute.specs.Table.{attributes}
 use Rattle.property.specs.Lists.{Property}
 use Rattle.stream.specs.Messages.{Message, Holding}
 use Rattle.message.specs.declared.Target.{Target}
@@ -14,7 +13,6 @@ use Rattle.editing.specs.Targets.{with_holding, with_properties, target_level}
 use Rattle.editing.proofs.Places.{nth_all, nth_there, nth_other, change_length}
 use Rattle.editing.proofs.Listed.{KeysApart, keys_apart}
 use Rattle.promise.specs.Commuting.{same_target}
-use Rattle.promise.proofs.Orders.{has}
 
 -- Targets.
 pub same_target_true : (t u : Target) → same_target t u ≡ true → t ≡ u

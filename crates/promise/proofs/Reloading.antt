@@ -15,7 +15,7 @@ use Rattle.editing.proofs.Shapes.{Shaped, well_shaped, shaped_well}
 use Rattle.editing.proofs.Changes.{change_shaped, nothing_admitted, empty_list}
 use Rattle.draft.specs.Drafts.{Memory, enough, fitted, blank, begun, loaded}
 use Rattle.draft.specs.Calls.{State, form, edited, left_by}
-use Rattle.promise.specs.Runs.{Call, begin, load, edit, look, Step, leaves, loading, Accepted, after, Starts, Possible, AllPossible}
+use Rattle.promise.specs.Runs.{Call, begin, load, edit, look, Step, leaves, Accepted, after, Starts, Possible, AllPossible}
 use Rattle.promise.specs.Canonical.{RunsReload}
 use Rattle.promise.proofs.Accepting.{Fits, begun_ok, loaded_ok, edited_ok, settled, settled_form, settled_length}
 

@@ -24,7 +24,7 @@ use Rattle.editing.specs.Targets.{with_holding, with_attributes, with_properties
 use Rattle.editing.specs.Edits.{put_attribute, put_property, drop_attribute, drop_property, given_contents, given_property, given_key, set_primary, put_meaning, change}
 use Rattle.editing.proofs.Givens.{given_then, contents_ok, attribute_ok, passes, attribute_passes}
 use Rattle.promise.specs.Commuting.{same_target, Touch, put_contents as touch_put, put_value, drop_contents, drop_value, as_edit}
-use Rattle.promise.proofs.Orders.{Mark, adds, removes, nothing, has, moved}
+use Rattle.promise.proofs.Orders.{Mark, adds, removes, nothing, moved}
 use Rattle.promise.proofs.Holdings.{same_target_true, target_same, Room, room_held, held_there, held_other, rows_kept, attachments_kept, primary_kept, held_apart, room_properties, room_level, own_level}
 use Rattle.promise.proofs.Keyed.{keys, put_keys, without_keys, put_under, without_under}
 
