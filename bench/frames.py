@@ -1,7 +1,7 @@
 #!/usr/bin/env python3
 """Times `frames` against coreutils `sum` over one stream with a large attachment.
 
-usage: bench/frames.py [BYTES]     (after `rt check frames`)
+usage: bench/frames.py [BYTES]     (after `rt run` in crates/frames)
 Both read the same file from standard input; each is run RUNS times, in turn, and the best time counts.
 """
 import os
@@ -11,7 +11,7 @@ import tempfile
 import time
 
 RUNS = 15
-PROGRAM = os.path.join(os.path.dirname(__file__), "..", "target", "bin", "frames")
+PROGRAM = os.path.join(os.path.dirname(__file__), "..", "crates", "frames", "out", "frames")
 
 
 def frame(level, ident, data):

@@ -1,7 +1,7 @@
 #!/usr/bin/env python3
 """Times `letters` and `frames` on large streams, against `cat` and, where they are installed, `tnef -t` and `ytnef`.
 
-usage: bench/letters.py     (after `rt check letters frames`)
+usage: bench/letters.py     (after `rt run` in crates/letters and in crates/frames)
 The commands of a row are run in turn, RUNS times each, and the best of each counts: of the time that passed, and of the
 processor's time, which other work on the machine changes less.
 """
@@ -15,7 +15,7 @@ from frames import frame, stream
 from twins import letter, listed, long_property, named, number, text_property
 
 RUNS = 15
-BIN = os.path.join(os.path.dirname(__file__), "..", "target", "bin")
+CRATES = os.path.join(os.path.dirname(__file__), "..", "crates")
 FRONT = (
     bytes.fromhex("789f3e220100")
     + frame(1, 0x00089006, bytes([0, 0, 1, 0]))
@@ -47,8 +47,8 @@ def files(folder):
 
 
 def commands(paths):
-    yield "letters", [os.path.join(BIN, "letters"), *paths]
-    yield "frames", [os.path.join(BIN, "frames"), *paths]
+    for name in ("letters", "frames"):
+        yield name, [os.path.join(CRATES, name, "out", name), *paths]
     yield "cat", ["cat", *paths]
     for tool in (["tnef", "-t", "-f"], ["ytnef"]):
         if shutil.which(tool[0]):

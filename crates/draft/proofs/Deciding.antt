@@ -41,8 +41,11 @@ loads_decide v w a b xs ys f g sx sy e d =
     let k = forms_decide m n (xs, sx, r) (ys, sy, s) in
     (m, n, r, s, p, q, (λ t. k.0 (sym p ∙ t ∙ q), λ t. p ∙ k.1 t ∙ sym q))
 
-pub take_min : (n : ℕ) (xs : List ℕ) → take (min n (length xs)) xs ≡ take n xs
+take_min : (n : ℕ) (xs : List ℕ) → take (min n (length xs)) xs ≡ take n xs
 take_min n xs = same_lists _ _ (search (rules, places)) (λ k d l. grind (arith, places))
+
+pub taken : (n m : ℕ) (xs : List ℕ) → m ≡ min n (length xs) → take m xs ≡ take n xs
+taken n m xs e = ap (λ (k : ℕ). take k xs) e ∙ take_min n xs
 
 -- The form in an area after an accepted call.
 pub form_after : (o : Outcome (List ℕ)) (u : Unit {0}) (area was : List ℕ) (n m : ℕ) → Ok u ≡ told o → area ≡ area_after o was → n ≡ size_after o m

@@ -1,8 +1,7 @@
-use Rattle.std.proofs.Common.{◌≡◌, ℕ, ◌-◌, min, length, take, ap, ◌∙◌, arith}
-use Rattle.draft.proofs.Deciding.{take_min}
+use Rattle.std.proofs.Common.{arith}
+use Rattle.draft.proofs.Deciding.{taken}
 use Rattle.draft.proofs.Draft.form.Goals as goal
 
+-- The number that is taken is not named, so that a wrong one is refused as such.
 pub returns : goal.returns
-returns c =
-    let e : c.min-n.result - 0 ≡ min c.args.self.now.size (length c.args.self.now.area.now) = omega arith in
-    ap (λ (k : ℕ). take k c.args.self.now.area.now) e ∙ take_min c.args.self.now.size c.args.self.now.area.now
+returns c = taken _ _ _ (omega arith)
