@@ -50,11 +50,11 @@ pub record Worked : Type 0 where
   pub subject_written : over written (made (put_subject ∷ [])) ≡ Ok (smallest ++ write_frame 1 subject_id (0x41 ∷ (0x00 ∷ [])))
   pub subject_dropped : made (put_subject ∷ (drop_attribute to_message subject_id ∷ [])) ≡ Ok (bare 1252)
   -- The flags of a status are shown as other bits than those that stand in it.
-  pub status-asked :
+  pub status_asked :
       (made (put_attribute to_message status_id (0x24 ∷ (0x00 ∷ (0x00 ∷ (0x00 ∷ [])))) ∷ []) >>= attribute_asked to_message status_id)
       ≡ Ok (number (pos 7))
   -- The code page is the message's own: it is put and asked, and never dropped.
-  pub page-asked :
+  pub page_asked :
       (made (put_attribute to_message code_page_id (0xE9 ∷ (0xFD ∷ (0x00 ∷ (0x00 ∷ (0x07 ∷ (0x07 ∷ (0x07 ∷ (0x07 ∷ [])))))))) ∷ [])
       >>= attribute_asked to_message code_page_id)
       ≡ Ok (number (pos 65001))
@@ -75,7 +75,7 @@ pub record Worked : Type 0 where
   pub row_attribute : made (add_row ∷ (put_attribute (to_row 0) subject_id (0x41 ∷ (0x00 ∷ [])) ∷ [])) ≡ refused Level 0
   pub no_row : made (add_row ∷ (remove_row 0 ∷ (put_property (to_row 0) seven_given ∷ []))) ≡ refused Missing 0
   -- An attachment begins with its rendering, which is never dropped.
-  pub title-asked :
+  pub title_asked :
       (made (add_attachment file_given ∷ (put_attribute (to_attachment 0) title_id (0x61 ∷ (0x00 ∷ [])) ∷ [])) >>= attribute_asked (to_attachment 0) title_id)
       ≡ Ok (words (0x61 ∷ []))
   pub rendering_asked : (made (add_attachment file_given ∷ []) >>= attribute_asked (to_attachment 0) rendering_id) ≡ Ok (plain file_given)

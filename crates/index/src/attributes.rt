@@ -1,6 +1,7 @@
 // Rows of attributes, by id.
 ghost use Rattle.std.specs.Prelude.{false, ◌==◌};
-ghost use Rattle.std.proofs.Common.{rules};
+ghost use Rattle.std.proofs.Common.{refl, sym, ◌∙◌};
+ghost use Rattle.std.proofs.lemmas.Bool.{eq-eqb, eqb-true};
 
 use crate::Row;
 
@@ -17,11 +18,11 @@ impl Row for AttributeRow {
 
     ghost later = { false };
 
-    ghost itself = { Prim.search rules };
+    ghost itself = { λ x. eq-eqb x.id x.id refl };
 
-    ghost turned = { Prim.search rules };
+    ghost turned = { λ x y e. eq-eqb y.id x.id (sym (eqb-true x.id y.id e)) };
 
-    ghost through = { Prim.search rules };
+    ghost through = { λ x y z e f. eq-eqb x.id z.id (eqb-true x.id y.id e ∙ eqb-true y.id z.id f) };
 
     fn same_key(&self, other: &Self) -> bool {
         self.id == other.id
