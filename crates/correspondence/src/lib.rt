@@ -7,7 +7,7 @@ ghost use Rattle.index.specs.Rows.{added, before};
 ghost use Rattle.correspondence.specs.Forms.{forms_in};
 ghost use Rattle.correspondence.specs.Groups.{GroupsDecide};
 
-use places::place;
+use places::{known, place};
 use std::alloc::{AllocError, Global};
 
 mod links;
@@ -39,6 +39,9 @@ impl Correspondence {
         ensures forms { forms_in self.new ≡ (if is_ok result then added bytes_eq false (forms_in self.old) form.now else forms_in self.old) }
         ensures group { IfOk result (λ k. k ≡ before bytes_eq (forms_in self.new) form.now) }
     {
+        if let Some(i) = known(self.forms.as_slice(), self.links.as_slice(), form) {
+            return Ok(i);
+        }
         let copy = form.to_vec(heap)?;
         place(&mut self.forms, &mut self.links, copy)
     }

@@ -1,8 +1,8 @@
 // The place of a form among those that are kept.
-ghost use Rattle.std.specs.Prelude.{◌≡◌, false, [], ◌∷◌, ◌++◌, length, is_ok, IfOk, if◌then◌else◌, vec_len};
+ghost use Rattle.std.specs.Prelude.{◌≡◌, false, [], ◌∷◌, ◌++◌, length, is_ok, IfOk, IfSome, if◌then◌else◌, vec_len};
 ghost use Rattle.std.specs.Str.{bytes_eq};
 ghost use Rattle.index.specs.Rows.{added, before};
-ghost use Rattle.correspondence.specs.Vectors.{forms_of};
+ghost use Rattle.correspondence.specs.Vectors.{bytes_of, forms_of};
 ghost use Rattle.correspondence.specs.Trees.{mark_of, fresh, Sound, Located, Keeps};
 ghost use Rattle.correspondence.specs.declared.links.Spot.TheVariants.{Under};
 
@@ -61,6 +61,18 @@ fn keep_under(
     let place = keep(forms, links, form, mark)?;
     hang(links, at, mark, place);
     Ok(place)
+}
+
+// Where a form stands that is kept.
+pub fn known(forms: &[Vec<u8>], links: &[Link], form: &[u8]) -> Option<usize>
+    requires { Sound (bytes_of forms.now) links.now }
+    ensures { IfSome result (λ i. (bytes_of forms.now ≡ added bytes_eq false (bytes_of forms.now) form.now) × (i ≡ before bytes_eq (bytes_of forms.now) form.now)) }
+{
+    match find(forms, links, form, mark_of(form)) {
+        Spot::Found(i) => Some(i),
+        Spot::Under(_) => None,
+        Spot::Nowhere => None,
+    }
 }
 
 // Looks for a form, and keeps it where it is new.

@@ -90,7 +90,10 @@ fn print_letter<W: Write>(
 
 // All of a file, or more than a stream may have.
 fn read_file(file: &mut File, heap: Global) -> io::Result<Vec<u8>> {
-    let size = file.metadata()?.len().min(SOURCE_LIMIT as u64);
+    let size = match file.metadata() {
+        Ok(data) => data.len().min(SOURCE_LIMIT as u64),
+        Err(_) => 0,
+    };
     read_expected(file, size as usize, SOURCE_LIMIT, heap)
 }
 
