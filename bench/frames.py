@@ -1,7 +1,7 @@
 #!/usr/bin/env python3
 """Times `frames` against coreutils `sum` over one stream with a large attachment.
 
-usage: bench/frames.py [BYTES]     (after `rt run` in crates/frames)
+usage: bench/frames.py [BYTES]     (after `rt run </dev/null` in crates/frames)
 Both read the same file from standard input; each is run RUNS times, in turn, and the best time counts.
 """
 import os

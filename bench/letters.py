@@ -1,7 +1,7 @@
 #!/usr/bin/env python3
 """Times `letters` and `frames` on large streams, against `cat` and, where they are installed, `tnef -t` and `ytnef`.
 
-usage: bench/letters.py     (after `rt run` in crates/letters and in crates/frames)
+usage: bench/letters.py     (after `rt run </dev/null` in crates/letters and in crates/frames)
 The commands of a row are run in turn, RUNS times each, and the best of each counts: of the time that passed, and of the
 processor's time, which other work on the machine changes less.
 """
