@@ -1,4 +1,4 @@
-use Rattle.std.proofs.Common.{◌∙◌, arith}
+use Rattle.std.proofs.Common.{arith}
 use Rattle.pen.proofs.Pens.{◌▷◌}
 use Rattle.listform.specs.Forms.{values_form, ValuesFit}
 use Rattle.listform.proofs.values.fixed_values.Goals as goal
@@ -7,11 +7,9 @@ pub fixed_run-requires : goal.fixed_run-requires
 unfolding ValuesFit
 fixed_run-requires g c = (c.requires.0, (c.requires.1.0, rw c.if-not-several.true at c.requires.1.1))
 
-pub returns-then-not-several : goal.returns-then-not-several
+pub returns-then-not-several-clause-value : goal.returns-then-not-several-clause-value
 unfolding values_form
-returns-then-not-several g c =
-    let h = c.fixed_run.ensures in
-    record { same = h.same; value = rw c.if-not-several.true h.value }
+returns-then-not-several-clause-value g c = rw c.if-not-several.true c.fixed_run.ensures.value
 
 pub number_at-count-requires : goal.number_at-count-requires
 unfolding ValuesFit
@@ -27,9 +25,8 @@ fixed_run-requires-2 g c =
     let h = c.number_at-count.ensures in
     (c.requires.0, (rw h.same c.requires.1.0, rw (h.same, h.value) (rw c.if-not-several.false at c.requires.1.1).1))
 
-pub returns : goal.returns
+pub returns-clause-value : goal.returns-clause-value
 unfolding values_form
-returns g c =
+returns-clause-value g c =
     let h = c.number_at-count.ensures in
-    let q = c.fixed_run-2.ensures in
-    record { same = q.same ∙ h.same; value = rw (c.if-not-several.false, ← h.value) (c.pen_le32-a.ensures ▷ (rw h.same at q.value)) }
+    rw (c.if-not-several.false, ← h.value) (c.put_le.ensures ▷ (rw h.same at c.fixed_run-2.ensures.value))
