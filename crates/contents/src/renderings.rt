@@ -25,7 +25,10 @@ fn has_right_parts(bytes: &[u8; 14]) -> bool
 fn is_right(bytes: Option<[u8; 14]>) -> bool
     ensures { result ≡ is_some (then bytes checked_rendering) }
 {
-    bytes.is_some_and(|bytes| has_right_parts(&bytes))
+    match bytes {
+        Some(bytes) => has_right_parts(&bytes),
+        None => false,
+    }
 }
 
 // Whether data are a rendering: of type 1 or 2, with flags of 0 or 1.

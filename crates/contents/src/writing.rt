@@ -11,7 +11,14 @@ use crate::classes::class_text;
 use crate::{Date, Status, class_at, code_page_at, date_at, status_at, truth_at};
 use attribute::Rule;
 use pen::Pen;
-use source::Source;
+use source::{Refusal, Source};
+
+// What was read, if anything was.
+fn if_known<T: Drop>(read: Result<Option<T>, Refusal>) -> Option<T>
+    ensures { result ≡ known read }
+{
+    read.ok()?
+}
 
 fn pen_date(pen: &mut Pen<'_>, day: Date)
     ensures { Wrote pen.old (normal (date day)) pen.new }
@@ -52,12 +59,7 @@ fn pen_class(pen: &mut Pen<'_>, k: usize)
 }
 
 // Writes data that are their own normal data; a source's length says besides that it means bytes.
-fn write_same<S: Source>(
-    source: &mut S,
-    place: usize,
-    size: usize,
-    pen: &mut Pen<'_>,
-)
+fn write_same<S: Source>(source: &mut S, place: usize, size: usize, pen: &mut Pen<'_>)
     ensures same { S.Source.content source.new ≡ S.Source.content source.old }
     ensures octets { Octets (meaning (S.Source.content source.old)) }
     ensures value { place + size ≤ length (meaning (S.Source.content source.old))
@@ -68,18 +70,13 @@ fn write_same<S: Source>(
 }
 
 // Writes the pair's attribute value for any of its spellings, and another text as it is.
-fn write_class<S: Source>(
-    source: &mut S,
-    place: usize,
-    size: usize,
-    pen: &mut Pen<'_>,
-)
+fn write_class<S: Source>(source: &mut S, place: usize, size: usize, pen: &mut Pen<'_>)
     ensures same { S.Source.content source.new ≡ S.Source.content source.old }
     ensures value { Written rules.Class (meaning (S.Source.content source.old)) place size pen.old pen.new }
 {
-    match class_at(source, place, size) {
-        Ok(Some(k)) => pen_class(pen, k),
-        _ => pen.put_from(source, place, size),
+    match if_known(class_at(source, place, size)) {
+        Some(k) => pen_class(pen, k),
+        None => pen.put_from(source, place, size),
     }
 }
 
@@ -101,20 +98,22 @@ fn capitalize(bytes: &mut [u8])
 }
 
 // Writes the digits of a part, where it is there, as capitals.
-fn pen_capitals<S: Source>(
-    source: &mut S,
-    place: usize,
-    size: usize,
-    pen: &mut Pen<'_>,
-)
+fn pen_capitals<S: Source>(source: &mut S, place: usize, size: usize, pen: &mut Pen<'_>)
     ensures same { S.Source.content source.new ≡ S.Source.content source.old }
     ensures value { place + size ≤ length (meaning (S.Source.content source.old))
         → Wrote pen.old (map upper (part (meaning (S.Source.content source.old)) place size)) pen.new }
 {
-    let start = pen.here;
-    pen.put_from(source, place, size);
-    if let (Some(start), Some(end)) = (start, pen.here) {
-        capitalize(&mut pen.out[start..end]);
+    let Some(start) = pen.room_for(size) else {
+        pen.here = None;
+        return;
+    };
+    let digits = &mut pen.out[start..start + size];
+    match source.fetch(place, digits) {
+        Ok(()) => {
+            capitalize(digits);
+            pen.here = Some(start + size);
+        }
+        Err(_) => pen.here = None,
     }
 }
 
@@ -134,27 +133,23 @@ pub fn write_normal<S: Source>(
             write_same(source, place, size, pen)
         }
         Rule::Class => write_class(source, place, size, pen),
-        Rule::Date => {
-            if let Ok(Some(day)) = date_at(source, place, size) {
-                pen_date(pen, day)
-            }
-        }
+        Rule::Date => match if_known(date_at(source, place, size)) {
+            Some(day) => pen_date(pen, day),
+            None => {}
+        },
         Rule::Digits => pen_capitals(source, place, size, pen),
-        Rule::Status => {
-            if let Ok(Some(state)) = status_at(source, place, size) {
-                pen_status(pen, state)
-            }
-        }
-        Rule::YesNo => {
-            if let Ok(Some(answer)) = truth_at(source, place, size) {
-                pen_truth(pen, answer)
-            }
-        }
-        Rule::CodePage => {
-            if let Ok(Some(primary)) = code_page_at(source, place, size) {
-                pen_code_page(pen, primary)
-            }
-        }
+        Rule::Status => match if_known(status_at(source, place, size)) {
+            Some(state) => pen_status(pen, state),
+            None => {}
+        },
+        Rule::YesNo => match if_known(truth_at(source, place, size)) {
+            Some(answer) => pen_truth(pen, answer),
+            None => {}
+        },
+        Rule::CodePage => match if_known(code_page_at(source, place, size)) {
+            Some(primary) => pen_code_page(pen, primary),
+            None => {}
+        },
         Rule::Recipients | Rule::Properties => {}
     }
 }
