@@ -83,6 +83,7 @@ fn write_sized<S: Source>(source: &mut S, size: u32, place: usize, pen: &mut Pen
 }
 
 // Writes `count` values, each behind its size.
+// A loop of its own: one that takes the step as a closure would need a longer contract than both.
 #[tactic(auto, using(crate::proofs::WalkSteps::within_now))]
 fn sized_run<S: Source>(source: &mut S, count: u32, place: usize, pen: &mut Pen<'_>)
     requires { (length (meaning (S.Source.content source.old)) ≤ source_limit) × (Within (length (meaning (S.Source.content source.old))) (sized_next (meaning (S.Source.content source.old))) count place) }
