@@ -30,6 +30,7 @@ fn write_row<S: Source>(source: &mut S, row: &PropertyRow, number: u16, pen: &mu
 }
 
 // Writes rows, whose names are numbered from `first` on as they come, and gives the number of the next name.
+#[tactic(auto, using(crate::proofs::RowForms::fit_at))]
 pub fn write_rows_from<S: Source>(
     source: &mut S,
     rows: &[PropertyRow],

@@ -26,6 +26,7 @@ fn write_fixed<S: Source>(source: &mut S, kind: Kind, size: u8, place: usize, pe
 }
 
 // Writes `count` values of `size` bytes, each padded.
+#[tactic(auto, using(crate::proofs::WalkSteps::within_now))]
 fn fixed_run<S: Source>(
     source: &mut S,
     kind: Kind,
@@ -49,6 +50,7 @@ fn fixed_run<S: Source>(
 }
 
 // Writes one value of a fixed width, or a count and so many.
+#[tactic(auto, unfolding(crate::specs::Forms::ValuesFit, crate::specs::Forms::values_form))]
 fn fixed_values<S: Source>(
     source: &mut S,
     kind: Kind,
@@ -81,6 +83,8 @@ fn write_sized<S: Source>(source: &mut S, size: u32, place: usize, pen: &mut Pen
 }
 
 // Writes `count` values, each behind its size.
+// A loop of its own: one that takes the step as a closure would need a longer contract than both.
+#[tactic(auto, using(crate::proofs::WalkSteps::within_now))]
 fn sized_run<S: Source>(source: &mut S, count: u32, place: usize, pen: &mut Pen<'_>)
     requires { (length (meaning (S.Source.content source.old)) ≤ source_limit) × (Within (length (meaning (S.Source.content source.old))) (sized_next (meaning (S.Source.content source.old))) count place) }
     ensures same { S.Source.content source.new ≡ S.Source.content source.old }
@@ -106,6 +110,7 @@ fn sized_values<S: Source>(source: &mut S, place: usize, pen: &mut Pen<'_>)
 }
 
 // Writes the values at `place`.
+#[tactic(auto, using(crate::proofs::ValueForms::no_width), unfolding(crate::specs::Forms::ValuesFit, crate::specs::Forms::values_form))]
 pub fn write_values<S: Source>(source: &mut S, shape: Shape, place: usize, pen: &mut Pen<'_>)
     requires { (length (meaning (S.Source.content source.old)) ≤ source_limit) × (ValuesFit (meaning (S.Source.content source.old)) (width shape.kind) shape.several place) }
     ensures same { S.Source.content source.new ≡ S.Source.content source.old }

@@ -9,7 +9,7 @@ flag_of : (n : ℕ) → min n 1 ≡ cond (not (eqb n 0)) 1 0
 flag_of n = grind (arith, nat_tests)
 
 pub unwrap-requires : goal.unwrap-requires
-unwrap-requires g c = rw (c.at.ensures.value ∙ asked_within val _ _ _ c.requires) refl
+unwrap-requires g c = rw (c.at.ensures.value ∙ asked_within val _ _ _ (omega arith)) refl
 
 pub returns-clause-value : goal.returns-clause-value
 returns-clause-value g c =

@@ -1,4 +1,4 @@
-use Rattle.std.proofs.Common.{refl, sym, ◌∙◌}
+use Rattle.std.proofs.Common.{refl, sym, ◌∙◌, arith}
 use Rattle.source.specs.Bytes.{val}
 use Rattle.source.proofs.Outcomes.{ok_same}
 use Rattle.scan.proofs.Parts.{asked_within}
@@ -6,7 +6,7 @@ use Rattle.listform.specs.Forms.{number_there}
 use Rattle.listform.proofs.fields.number_at.Goals as goal
 
 pub unwrap-requires : goal.unwrap-requires
-unwrap-requires g c = rw (c.at.ensures.value ∙ asked_within val _ _ _ c.requires) refl
+unwrap-requires g c = rw (c.at.ensures.value ∙ asked_within val _ _ _ (omega arith)) refl
 
 pub returns-clause-value : goal.returns-clause-value
 unfolding number_there

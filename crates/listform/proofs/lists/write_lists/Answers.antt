@@ -1,6 +1,5 @@
 use Rattle.std.proofs.Common.{◌+◌, ◌-◌, refl, ◌∙◌, arith}
 use native.Mathlib.Nat.{sub-zero}
-use Rattle.source.specs.Content.{meaning}
 use Rattle.listform.proofs.ListForms.{left_more, left_lost, left_none}
 use Rattle.listform.proofs.lists.write_lists.Goals as goal
 
@@ -10,22 +9,13 @@ loop-init g c = (refl, λ a f. (a, rw sub-zero f, λ after p. p))
 pub returns-in_default-clause-value : goal.returns-in_default-clause-value
 returns-in_default-clause-value g c =
     let i = c.loop.invariant in
-    left_lost (meaning (g.S.Source.content c.args.source.now)) c.args.end c.args.count c.args.place c.args.pen.now
-    (c.args.count - c.loop.counter) (c.args.count - (c.loop.counter + 1)) c.loop.read c.loop.pen c.write_list_at.new.pen
-    (omega arith) i.1 (rw i.0 at c.in_default.ensures.value)
+    left_lost _ _ _ _ _ _ (c.args.count - (c.loop.counter + 1)) _ c.loop.pen _ (omega arith) i.1 (rw i.0 at c.in_default.ensures.value)
 
 pub loop-preserved : goal.loop-preserved
 loop-preserved g c =
     let i = c.loop.invariant in
-    let q = c.in-Some.ensures in (
-      q.same ∙ i.0,
-      left_more (meaning (g.S.Source.content c.args.source.now)) c.args.end c.args.count c.args.place c.args.pen.now
-          (c.args.count - c.loop.counter) (c.args.count - (c.loop.counter + 1)) c.loop.read c.loop.pen c.write_list_at.new.pen c.in-Some.next
-          (omega arith) i.1 (rw i.0 at q.value),
-    )
+    let q = c.in-Some.ensures in
+    (q.same ∙ i.0, left_more _ _ _ _ _ _ _ _ _ _ _ (omega arith) i.1 (rw i.0 at q.value))
 
 pub returns-clause-value : goal.returns-clause-value
-returns-clause-value g c =
-    let i = c.loop.invariant in
-    left_none (meaning (g.S.Source.content c.args.source.now)) c.args.end c.args.count c.args.place c.args.pen.now
-    (c.args.count - c.loop.counter) c.loop.read c.loop.pen (omega arith) i.1
+returns-clause-value g c = let i = c.loop.invariant in left_none _ _ _ _ _ _ _ _ (omega arith) i.1

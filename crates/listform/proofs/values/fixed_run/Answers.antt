@@ -7,18 +7,6 @@ use Rattle.listform.proofs.ValueForms.{fixed_filled}
 use Rattle.listform.proofs.WalkSteps.{within_now, within_more, walked_more, walked_none}
 use Rattle.listform.proofs.values.fixed_run.Goals as goal
 
-pub write_fixed-requires : goal.write_fixed-requires
-write_fixed-requires g c =
-    let i = c.loop.invariant in
-    let w = within_now _ _ _ _ (omega arith) i.1 in
-    (c.requires.0, rw i.0 (omega (arith, w)))
-
-pub overflow_add-read-in-loop : goal.overflow_add-read-in-loop
-overflow_add-read-in-loop g c =
-    let i = c.loop.invariant in
-    let w = within_now _ _ _ _ (omega arith) i.1 in
-    omega (arith, w, c.from-wide.ensures, c.gap-pad.ensures, c.requires.1)
-
 pub loop-preserved : goal.loop-preserved
 loop-preserved g c =
     let i = c.loop.invariant in

@@ -2,35 +2,8 @@ use Rattle.std.proofs.Common.{◌≡◌, suc, ◌+◌, ◌-◌, ◌∙◌, arith
 use Rattle.source.specs.Content.{meaning}
 use Rattle.pen.proofs.Pens.{leads_on, leads_end}
 use Rattle.listform.specs.Forms.{number_there, sized_form, sized_next}
-use Rattle.listform.proofs.WalkSteps.{within_now, within_more, walked_more, walked_none}
+use Rattle.listform.proofs.WalkSteps.{within_more, walked_more, walked_none}
 use Rattle.listform.proofs.values.sized_run.Goals as goal
-
-pub number_at-size-requires : goal.number_at-size-requires
-number_at-size-requires g c =
-    let i = c.loop.invariant in
-    let w = within_now _ _ _ _ (omega arith) i.1 in
-    rw i.0 (omega (arith, w))
-
-pub overflow_add-read : goal.overflow_add-read
-overflow_add-read g c =
-    let i = c.loop.invariant in
-    let w = within_now _ _ _ _ (omega arith) i.1 in
-    omega (arith, w, c.requires.0)
-
-pub write_sized-requires : goal.write_sized-requires
-write_sized-requires g c =
-    let i = c.loop.invariant in
-    let h = c.number_at-size.ensures in
-    let w = within_now _ _ _ _ (omega arith) i.1 in
-    let v = rw i.0 at h.value in
-    rw (h.same, i.0) (omega (arith, w, v))
-
-pub overflow_add-read-in-loop-3 : goal.overflow_add-read-in-loop-3
-overflow_add-read-in-loop-3 g c =
-    let i = c.loop.invariant in
-    let w = within_now _ _ _ _ (omega arith) i.1 in
-    let v = rw i.0 at c.number_at-size.ensures.value in
-    omega (arith, w, v, c.gap.ensures, c.requires.0)
 
 pub loop-preserved : goal.loop-preserved
 unfolding sized_form
