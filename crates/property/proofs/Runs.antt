@@ -1,5 +1,5 @@
 -- Runs of values, and the place behind them.
-use Rattle.std.proofs.Common.{◌≡◌, ℕ, zero, suc, ◌+◌, ◌*◌, ◌≤◌, Bool, true, false, cond, eqb, leb, List, Ok, Err, sym, refl, ◌∙◌, inl, inr, suc-mul, zero-mul, arith}
+use Rattle.std.proofs.Common.{◌≡◌, ℕ, zero, suc, ◌+◌, ◌*◌, ◌≤◌, Bool, true, false, cond, eqb, leb, List, ◌∷◌, Ok, Err, sym, refl, ◌∙◌, inl, inr, suc-mul, zero-mul, arith}
 use Rattle.std.proofs.lemmas.Bool.{le-leb, lt-leb}
 use Rattle.std.proofs.lemmas.Bool.Decides.{leb_tells}
 use Rattle.source.specs.Bytes.{part}
@@ -9,6 +9,7 @@ use Rattle.source.specs.declared.refusals.Refusal.{Refusal}
 use Rattle.property.specs.declared.kinds.Kind.{Kind}
 use Rattle.property.specs.Fields.{At, at, padded, behind, repeated, number_at, sized}
 use Rattle.property.specs.Kinds.{admits}
+use Rattle.property.specs.Repeats.{stepped}
 use Rattle.property.specs.Rows.{sized_by}
 use Rattle.property.specs.Values.{run_end, fixed_value, sized_value, fixed_values, sized_values}
 use Rattle.property.proofs.Outcomes.{over_got, over_lost}
@@ -19,21 +20,15 @@ unfolding ◌>>=◌
 next_through (Ok r) f = refl
 next_through (Err e) f = refl
 
-module _ {A : Type 0} (read : ℕ → Outcome (At A)) where
-  pub repeated_none : (p : ℕ) → behind (repeated read 0 p) ≡ Ok p
-  unfolding repeated
-  repeated_none p = refl
-
-  pub repeated_lost : (n m p : ℕ) (r : Refusal) → n ≡ suc m → Err r ≡ behind (read p) → behind (repeated read n p) ≡ Err r
-  unfolding repeated ◌>>=◌
-  repeated_lost n m p r e h = rw (e, ← over_lost _ (read p) r h)
-
-  next_one : (n m p q : ℕ) (a : At A) → n ≡ suc m → Ok a ≡ read p → q ≡ a.next → behind (repeated read n p) ≡ behind (repeated read m q)
-  unfolding repeated ◌>>=◌
-  next_one n m p q a e k h = rw (e, ← k, h) (next_through (repeated read m a.next) _)
-
-  pub repeated_more : (n m p q : ℕ) → n ≡ suc m → Ok q ≡ behind (read p) → behind (repeated read n p) ≡ behind (repeated read m q)
-  repeated_more n m p q e h = let g = over_got (λ (a : At A). a.next) (read p) q h in next_one n m p q g.0 e g.1 g.2
+-- Only the places, of things that are read in a row.
+pub stepped_behind : {A : Type 0} (read : ℕ → Outcome (At A)) (n p : ℕ) → stepped (λ q. behind (read q)) n p ≡ behind (repeated read n p)
+unfolding stepped repeated ◌>>=◌
+stepped_behind {A = A} read zero p = refl
+stepped_behind {A = A} read (suc n) p = turn (λ q. stepped_behind read n q) (read p)
+  where
+    turn : ((q : ℕ) → stepped (λ r. behind (read r)) n q ≡ behind (repeated read n q)) → (o : Outcome (At A)) → (behind o >>= stepped (λ q. behind (read q)) n) ≡ behind (o >>= (λ a. repeated read n a.next >>= (λ rest. Ok (at (a.what ∷ rest.what) rest.next))))
+    turn rest (Ok a) = rest a.next ∙ sym (next_through (repeated read n a.next) _)
+    turn rest (Err r) = refl
 
 module _ (end start w n p : ℕ) where
   pub run_got : p + n * padded w ≤ end → Ok (p + n * padded w) ≡ run_end end start w n p

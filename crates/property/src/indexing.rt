@@ -33,13 +33,11 @@ fn add_at<S: Source>(
     ensures within { IfOk result (λ l. l.next ≤ end) }
 {
     let row = property_at(source, end, place)?;
-    match add(lent, used, row) {
-        Some(count) => Ok(Listed {
-            count,
-            next: row.next,
-        }),
-        None => unreachable(),
-    }
+    let count = add(lent, used, row).unwrap();
+    Ok(Listed {
+        count,
+        next: row.next,
+    })
 }
 
 // The index of `count` properties.

@@ -7,6 +7,7 @@ ghost use Rattle.property.specs.Rows.{ReadAt, ReadOne};
 
 use crate::fields::{ends_at, number2, number4};
 use crate::names::key_at;
+use crate::repeats::behind_each;
 use crate::shape_of;
 use crate::values::values_at;
 use index::PropertyRow;
@@ -19,6 +20,7 @@ pub const LIST_LIMIT: u32 = 1024;
 pub const ROW_LIMIT: u32 = 1024;
 
 // The property at `place`.
+#[tactic(auto, unfolding(crate::specs::Lists::property_at, crate::specs::Lists::property_from))]
 pub(crate) fn property_at<S: Source>(
     source: &mut S,
     end: usize,
@@ -30,15 +32,10 @@ pub(crate) fn property_at<S: Source>(
     ensures within { IfOk result (λ row. row.next ≤ end) }
 {
     let number = number2(source, end, place, place)?;
-    let shape = match shape_of(number) {
-        Some(shape) => shape,
-        None => {
-            return Err(Refusal {
-                reason: Reason::FieldRule,
-                place,
-            });
-        }
-    };
+    let shape = shape_of(number).ok_or(Refusal {
+        reason: Reason::FieldRule,
+        place,
+    })?;
     let found = key_at(source, end, place, place + 2)?;
     let next = values_at(source, end, place, shape, found.next)?;
     Ok(PropertyRow {
@@ -49,27 +46,8 @@ pub(crate) fn property_at<S: Source>(
     })
 }
 
-// The place behind `count` properties.
-fn properties_at<S: Source>(
-    source: &mut S,
-    end: usize,
-    count: u32,
-    place: usize,
-) -> Result<usize, Refusal>
-    requires { (end ≤ length (meaning (S.Source.content source.old))) × (place ≤ end) }
-    ensures same { S.Source.content source.new ≡ S.Source.content source.old }
-    ensures reads { result ≡ behind (repeated (property_at (meaning (S.Source.content source.old)) end) count place) }
-    ensures within { IfOk result (λ n. n ≤ end) }
-{
-    let mut here = place;
-    for i in 0..count {
-        let row = property_at(source, end, here)?;
-        here = row.next;
-    }
-    Ok(here)
-}
-
 // The place behind the list at `place`.
+#[tactic(auto, unfolding(crate::specs::Lists::list_at))]
 fn list_at<S: Source>(source: &mut S, end: usize, place: usize) -> Result<usize, Refusal>
     requires { end ≤ length (meaning (S.Source.content source.old)) }
     ensures same { S.Source.content source.new ≡ S.Source.content source.old }
@@ -83,29 +61,13 @@ fn list_at<S: Source>(source: &mut S, end: usize, place: usize) -> Result<usize,
             place,
         });
     }
-    properties_at(source, end, count, place + 4)
-}
-
-// The place behind `count` lists.
-fn lists_at<S: Source>(
-    source: &mut S,
-    end: usize,
-    count: u32,
-    place: usize,
-) -> Result<usize, Refusal>
-    requires { (end ≤ length (meaning (S.Source.content source.old))) × (place ≤ end) }
-    ensures same { S.Source.content source.new ≡ S.Source.content source.old }
-    ensures reads { result ≡ behind (repeated (list_at (meaning (S.Source.content source.old)) end) count place) }
-    ensures within { IfOk result (λ n. n ≤ end) }
-{
-    let mut here = place;
-    for i in 0..count {
-        here = list_at(source, end, here)?;
-    }
-    Ok(here)
+    behind_each(source, end, count, place + 4, |source, here| {
+        Ok(property_at(source, end, here)?.next)
+    })
 }
 
 // The place behind the table at `place`.
+#[tactic(auto, unfolding(crate::specs::Lists::table_at))]
 fn table_at<S: Source>(source: &mut S, end: usize, place: usize) -> Result<usize, Refusal>
     requires { end ≤ length (meaning (S.Source.content source.old)) }
     ensures same { S.Source.content source.new ≡ S.Source.content source.old }
@@ -119,7 +81,9 @@ fn table_at<S: Source>(source: &mut S, end: usize, place: usize) -> Result<usize
             place,
         });
     }
-    lists_at(source, end, count, place + 4)
+    behind_each(source, end, count, place + 4, |source, here| {
+        list_at(source, end, here)
+    })
 }
 
 // The place behind the list at `place`, in data that end at `end`.

@@ -44,23 +44,22 @@ fn name_number<S: Source>(
 }
 
 // A name of the `n` bytes from `place` on.
+#[tactic(auto, unfolding(source::specs::Bytes::part))]
 fn name_of<S: Source>(
     source: &mut S,
     place: usize,
     n: usize,
-    mut buffer: [u8; NAME_LIMIT],
 ) -> Result<Name, Refusal>
     requires { (place + n ≤ length (meaning (S.Source.content source.old))) × (n ≤ name_limit) }
     ensures same { S.Source.content source.new ≡ S.Source.content source.old }
     ensures value { over name_text result ≡ Ok (part (meaning (S.Source.content source.old)) place n) }
 {
-    source.fetch(place, &mut buffer[0..n])?;
-    match Name::new(&buffer[0..n]) {
-        Some(name) => Ok(name),
-        None => unreachable(),
-    }
+    let mut buffer = [0; NAME_LIMIT];
+    source.fetch(place, &mut buffer[..n])?;
+    Ok(Name::new(&buffer[..n]).unwrap())
 }
 
+#[tactic(auto, unfolding(crate::specs::Names::name_string))]
 fn name_string<S: Source>(
     source: &mut S,
     end: usize,
@@ -87,7 +86,7 @@ fn name_string<S: Source>(
             place: start,
         });
     }
-    let text = name_of(source, place + 4, n, [0; NAME_LIMIT])?;
+    let text = name_of(source, place + 4, n)?;
     Ok(Keyed {
         key: PropertyKey::Named(guid, text),
         next: place + 4 + padded(n),

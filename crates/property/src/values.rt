@@ -8,6 +8,7 @@ ghost use Rattle.property.specs.Kinds.{admits};
 ghost use Rattle.property.specs.Values.{run_end, fixed_values, sized_value, sized_values, values_at};
 
 use crate::fields::{number4, padded, size_at};
+use crate::repeats::behind_each;
 use crate::{Kind, Shape};
 use scan::{is_text8, is_text16};
 use source::{Reason, Refusal, Source};
@@ -69,6 +70,7 @@ fn fixed_values<S: Source>(
 }
 
 // The place behind the value at `place`, behind its size.
+#[tactic(auto, unfolding(crate::specs::Values::sized_value))]
 fn value_at<S: Source>(
     source: &mut S,
     end: usize,
@@ -92,28 +94,8 @@ fn value_at<S: Source>(
     Ok(place + 4 + padded(n))
 }
 
-// The place behind `count` such values.
-fn sized_run<S: Source>(
-    source: &mut S,
-    end: usize,
-    start: usize,
-    kind: Kind,
-    count: u32,
-    place: usize,
-) -> Result<usize, Refusal>
-    requires { (end ≤ length (meaning (S.Source.content source.old))) × (place ≤ end) }
-    ensures same { S.Source.content source.new ≡ S.Source.content source.old }
-    ensures reads { result ≡ behind (repeated (sized_value (meaning (S.Source.content source.old)) end start kind) count place) }
-    ensures within { IfOk result (λ n. n ≤ end) }
-{
-    let mut here = place;
-    for i in 0..count {
-        here = value_at(source, end, start, kind, here)?;
-    }
-    Ok(here)
-}
-
 // The place behind a count and so many values, each behind its size.
+#[tactic(auto, unfolding(crate::specs::Values::sized_values))]
 fn sized_values<S: Source>(
     source: &mut S,
     end: usize,
@@ -135,7 +117,9 @@ fn sized_values<S: Source>(
             place: start,
         });
     }
-    sized_run(source, end, start, kind, count, place + 4)
+    behind_each(source, end, count, place + 4, |source, here| {
+        value_at(source, end, start, kind, here)
+    })
 }
 
 // The place behind the values at `place`.
