@@ -44,6 +44,7 @@ pub fn padded(size: usize) -> usize
 }
 
 // The two bytes at `place` as a number.
+#[tactic(auto, using(scan::proofs::Parts::asked_within), unfolding(crate::specs::Fields::number_at, crate::specs::Fields::field))]
 pub(crate) fn number2<S: Source>(
     source: &mut S,
     end: usize,
@@ -60,6 +61,7 @@ pub(crate) fn number2<S: Source>(
 }
 
 // The four bytes at `place` as a number.
+#[tactic(auto, using(scan::proofs::Parts::asked_within), unfolding(crate::specs::Fields::number_at, crate::specs::Fields::field))]
 pub(crate) fn number4<S: Source>(
     source: &mut S,
     end: usize,
@@ -76,6 +78,7 @@ pub(crate) fn number4<S: Source>(
 }
 
 // The GUID at `place`.
+#[tactic(auto, unfolding(crate::specs::Fields::field, source::specs::Bytes::part))]
 pub(crate) fn guid_at<S: Source>(
     source: &mut S,
     end: usize,
@@ -94,6 +97,7 @@ pub(crate) fn guid_at<S: Source>(
 }
 
 // The size at `place` of the bytes behind it, which end with their padding by `end`.
+#[tactic(auto, unfolding(crate::specs::Fields::sized))]
 pub(crate) fn size_at<S: Source>(
     source: &mut S,
     end: usize,

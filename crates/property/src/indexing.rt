@@ -66,6 +66,7 @@ fn rows_of<S: Source>(
 }
 
 // The index of the list at `place`, in rows that are lent for as many properties as a list can have.
+#[tactic(auto, unfolding(crate::specs::Indexing::listed, crate::specs::Lists::list_at))]
 pub fn rows<S: Source>(
     source: &mut S,
     place: usize,

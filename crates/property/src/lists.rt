@@ -109,6 +109,7 @@ pub fn read_property<S: Source>(
 }
 
 // The data from `base` to `end` as one property.
+#[tactic(auto, unfolding(crate::specs::Lists::one_property, crate::specs::Fields::whole))]
 pub fn one_property<S: Source>(
     source: &mut S,
     base: usize,
@@ -124,6 +125,7 @@ pub fn one_property<S: Source>(
 }
 
 // Judges the data from `base` to `end` as one list.
+#[tactic(auto, unfolding(crate::specs::Lists::property_list, crate::specs::Fields::whole))]
 pub fn property_list<S: Source>(source: &mut S, base: usize, end: usize) -> Result<(), Refusal>
     ensures same { S.Source.content source.new ≡ S.Source.content source.old }
     ensures reads { result ≡ done (property_list (meaning (S.Source.content source.old)) base (data_end (meaning (S.Source.content source.old)) end)) }
@@ -134,6 +136,7 @@ pub fn property_list<S: Source>(source: &mut S, base: usize, end: usize) -> Resu
 }
 
 // Judges the data from `base` to `end` as a table: a count of lists, and so many.
+#[tactic(auto, unfolding(crate::specs::Lists::recipient_table, crate::specs::Fields::whole))]
 pub fn recipient_table<S: Source>(source: &mut S, base: usize, end: usize) -> Result<(), Refusal>
     ensures same { S.Source.content source.new ≡ S.Source.content source.old }
     ensures reads { result ≡ done (recipient_table (meaning (S.Source.content source.old)) base (data_end (meaning (S.Source.content source.old)) end)) }

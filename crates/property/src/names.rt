@@ -24,6 +24,7 @@ pub struct Keyed {
     pub next: usize,
 }
 
+#[tactic(auto, unfolding(crate::specs::Names::name_number))]
 fn name_number<S: Source>(
     source: &mut S,
     end: usize,
@@ -94,6 +95,7 @@ fn name_string<S: Source>(
 }
 
 // The name at `place`: a GUID, a kind, and a number or a string.
+#[tactic(auto, unfolding(crate::specs::Names::name))]
 fn name_at<S: Source>(
     source: &mut S,
     end: usize,
@@ -118,6 +120,7 @@ fn name_at<S: Source>(
 }
 
 // The key at `place`.
+#[tactic(auto, unfolding(crate::specs::Names::key_at))]
 pub(crate) fn key_at<S: Source>(
     source: &mut S,
     end: usize,
@@ -140,6 +143,7 @@ pub(crate) fn key_at<S: Source>(
 }
 
 // The data from `base` to `end` as one key.
+#[tactic(auto, unfolding(crate::specs::Names::one_key, crate::specs::Fields::whole))]
 pub fn one_key<S: Source>(source: &mut S, base: usize, end: usize) -> Result<PropertyKey, Refusal>
     ensures same { S.Source.content source.new ≡ S.Source.content source.old }
     ensures reads { over key_of result ≡ one_key (meaning (S.Source.content source.old)) base (data_end (meaning (S.Source.content source.old)) end) }

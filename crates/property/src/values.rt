@@ -14,6 +14,7 @@ use scan::{is_text8, is_text16};
 use source::{Reason, Refusal, Source};
 
 // Whether the `size` bytes from `place` on may be a value of a kind.
+#[tactic(auto, using(scan::proofs::Parts::asked_within, scan::proofs::Numbers::length_part))]
 fn admitted<S: Source>(
     source: &mut S,
     kind: Kind,
@@ -33,6 +34,7 @@ fn admitted<S: Source>(
 }
 
 // The place behind `count` values of `width` bytes, each padded.
+#[tactic(auto, unfolding(crate::specs::Values::run_end))]
 fn run_end(end: usize, start: usize, width: u8, count: u32, place: usize) -> Result<usize, Refusal>
     requires { place ≤ end }
     ensures reads { result ≡ run_end end start width count place }
@@ -49,6 +51,7 @@ fn run_end(end: usize, start: usize, width: u8, count: u32, place: usize) -> Res
 }
 
 // The place behind one value of a fixed width, or behind a count and so many.
+#[tactic(auto, using(crate::proofs::Runs::run_all), unfolding(crate::specs::Values::fixed_values))]
 fn fixed_values<S: Source>(
     source: &mut S,
     end: usize,
@@ -123,6 +126,7 @@ fn sized_values<S: Source>(
 }
 
 // The place behind the values at `place`.
+#[tactic(auto, unfolding(crate::specs::Values::values_at))]
 pub(crate) fn values_at<S: Source>(
     source: &mut S,
     end: usize,
