@@ -44,7 +44,7 @@ pub fn padded(size: usize) -> usize
 }
 
 // The two bytes at `place` as a number.
-#[tactic(auto, using(scan::proofs::Parts::asked_within), unfolding(crate::specs::Fields::number_at, crate::specs::Fields::field))]
+#[tactic(auto, unfolding(crate::specs::Fields::number_at, crate::specs::Fields::field, scan::specs::Scans::asked))]
 pub(crate) fn number2<S: Source>(
     source: &mut S,
     end: usize,
@@ -61,7 +61,7 @@ pub(crate) fn number2<S: Source>(
 }
 
 // The four bytes at `place` as a number.
-#[tactic(auto, using(scan::proofs::Parts::asked_within), unfolding(crate::specs::Fields::number_at, crate::specs::Fields::field))]
+#[tactic(auto, unfolding(crate::specs::Fields::number_at, crate::specs::Fields::field, scan::specs::Scans::asked))]
 pub(crate) fn number4<S: Source>(
     source: &mut S,
     end: usize,

@@ -20,7 +20,7 @@ pub const LIST_LIMIT: u32 = 1024;
 pub const ROW_LIMIT: u32 = 1024;
 
 // The property at `place`.
-#[tactic(auto, unfolding(crate::specs::Lists::property_at, crate::specs::Lists::property_from))]
+#[tactic(auto, unfolding(crate::specs::Lists::property_at))]
 pub(crate) fn property_at<S: Source>(
     source: &mut S,
     end: usize,

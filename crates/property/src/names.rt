@@ -60,7 +60,7 @@ fn name_of<S: Source>(
     Ok(Name::new(&buffer[..n]).unwrap())
 }
 
-#[tactic(auto, unfolding(crate::specs::Names::name_string))]
+#[tactic(auto, using(scan::proofs::Numbers::length_part), unfolding(crate::specs::Names::name_string, scan::specs::Scans::asked))]
 fn name_string<S: Source>(
     source: &mut S,
     end: usize,

@@ -14,7 +14,7 @@ use scan::{is_text8, is_text16};
 use source::{Reason, Refusal, Source};
 
 // Whether the `size` bytes from `place` on may be a value of a kind.
-#[tactic(auto, using(scan::proofs::Parts::asked_within, scan::proofs::Numbers::length_part))]
+#[tactic(auto, using(scan::proofs::Numbers::length_part), unfolding(scan::specs::Scans::asked))]
 fn admitted<S: Source>(
     source: &mut S,
     kind: Kind,
