@@ -1,83 +1,93 @@
 // Writing bytes into a lent slice, one part after another.
 #![tactic(auto)]
 
-ghost use Rattle.std.specs.Prelude.{◌≡◌, ◌+◌, ◌≤◌, length, replicate};
-ghost use Rattle.source.specs.Bytes.{part, le};
+ghost use Rattle.std.specs.Prelude.{◌≡◌, ◌+◌, ◌≤◌, length, replicate, Some};
+ghost use Rattle.source.specs.Bytes.{part};
 ghost use Rattle.source.specs.Content.{meaning};
-ghost use Rattle.pen.specs.Pen.{Penned};
+ghost use Rattle.pen.specs.Pen.{Wrote, RoomFor};
 
+use scan::Number;
 use source::Source;
 
-// Writes `bytes` at a place, if there is one, and returns the place behind them, or none where they do not fit.
-pub fn pen(out: &mut [u8], here: Option<usize>, bytes: &[u8]) -> Option<usize>
-    ensures { Penned out.old here bytes.now out.new result }
-{
-    match here {
-        Some(start) => {
-            let size = bytes.len();
-            if start > out.len() || size > out.len() - start {
-                return None;
-            }
-            let end = start + size;
-            out[start..end].copy_from_slice(bytes);
-            Some(end)
-        }
-        None => None,
+// A slice, and the place up to which it is written; none once something did not fit.
+#[derive(Drop)]
+pub struct Pen<'a> {
+    pub out: &'a mut [u8],
+    pub here: Option<usize>,
+}
+
+impl<'a> Pen<'a> {
+    // Writes from the front of the slice on.
+    pub fn new(out: &'a mut [u8]) -> Pen<'a>
+        ensures reference { result.out.ghost_name ≡ out.entry.ghost_name }
+        ensures bytes { result.out.now ≡ out.old }
+        ensures place { result.here ≡ Some 0 }
+    {
+        Pen { out, here: Some(0) }
     }
-}
 
-// Writes a number as two bytes, the lower first.
-pub fn pen_le16(out: &mut [u8], here: Option<usize>, number: u16) -> Option<usize>
-    ensures { Penned out.old here (le 2 number) out.new result }
-{
-    pen(out, here, &number.to_le_bytes())
-}
-
-// Writes a number as four bytes, the lowest first.
-pub fn pen_le32(out: &mut [u8], here: Option<usize>, value: u32) -> Option<usize>
-    ensures { Penned out.old here (le 4 value) out.new result }
-{
-    pen(out, here, &value.to_le_bytes())
-}
-
-// Writes `count` zeros.
-pub fn pen_zeros(out: &mut [u8], here: Option<usize>, count: usize) -> Option<usize>
-    ensures { Penned out.old here (replicate count 0) out.new result }
-{
-    match here {
-        Some(start) => {
-            if start > out.len() || count > out.len() - start {
-                return None;
-            }
-            out[start..start + count].fill(0);
-            Some(start + count)
+    // Where `size` bytes more begin, if they fit.
+    fn room_for(&self, size: usize) -> Option<usize>
+        ensures { RoomFor self.now size result }
+    {
+        let start = self.here?;
+        if start > self.out.len() || size > self.out.len() - start {
+            return None;
         }
-        None => None,
+        Some(start)
     }
-}
 
-// Writes the `size` bytes of the source from `place` on, where there are so many.
-pub fn pen_from<S: Source>(
-    source: &mut S,
-    place: usize,
-    size: usize,
-    out: &mut [u8],
-    here: Option<usize>,
-) -> Option<usize>
-    ensures same { S.Source.content source.new ≡ S.Source.content source.old }
-    ensures value { place + size ≤ length (meaning (S.Source.content source.old))
-        → Penned out.old here (part (meaning (S.Source.content source.old)) place size) out.new result }
-{
-    match here {
-        Some(start) => {
-            if start > out.len() || size > out.len() - start {
-                return None;
+    // Writes bytes.
+    pub fn put(&mut self, bytes: &[u8])
+        ensures { Wrote self.old bytes.now self.new }
+    {
+        let Some(start) = self.room_for(bytes.len()) else {
+            self.here = None;
+            return;
+        };
+        let end = start + bytes.len();
+        self.out[start..end].copy_from_slice(bytes);
+        self.here = Some(end);
+    }
+
+    // Writes a number, its lowest byte first.
+    pub fn put_le<N: Number>(&mut self, number: N)
+        ensures { Wrote self.old (N.bytes number) self.new }
+    {
+        self.put(&number.to_bytes()[0..N::size()]);
+    }
+
+    // Writes `count` zeros.
+    pub fn put_zeros(&mut self, count: usize)
+        ensures { Wrote self.old (replicate count 0) self.new }
+    {
+        let Some(start) = self.room_for(count) else {
+            self.here = None;
+            return;
+        };
+        self.out[start..start + count].fill(0);
+        self.here = Some(start + count);
+    }
+
+    // Writes the `size` bytes of the source from `place` on, where there are so many.
+    pub fn put_from<S: Source>(&mut self, source: &mut S, place: usize, size: usize)
+        ensures same { S.Source.content source.new ≡ S.Source.content source.old }
+        ensures value { place + size ≤ length (meaning (S.Source.content source.old))
+            → Wrote self.old (part (meaning (S.Source.content source.old)) place size) self.new }
+    {
+        let Some(start) = self.room_for(size) else {
+            self.here = None;
+            return;
+        };
+        match source.fetch(place, &mut self.out[start..start + size]) {
+            Ok(()) => {
+                self.here = Some(start + size);
+                return;
             }
-            match source.fetch(place, &mut out[start..start + size]) {
-                Ok(()) => Some(start + size),
-                Err(_) => None,
+            Err(_) => {
+                self.here = None;
+                return;
             }
         }
-        None => None,
     }
 }

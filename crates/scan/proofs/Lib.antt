@@ -2,4 +2,3 @@ pub mod Folds
 pub mod Numbers
 pub mod Parts
 pub mod RunningSums
-pub mod TextScans

@@ -1,7 +1,7 @@
 -- Little-endian numbers.
-use Rattle.std.proofs.Common.{◌≡◌, ℕ, ◌+◌, ◌*◌, ◌≤◌, List, [], ◌∷◌, length, get_or, arith}
+use Rattle.std.proofs.Common.{◌≡◌, ℕ, ◌+◌, ◌*◌, ◌/◌, ◌%◌, ◌≤◌, List, [], ◌∷◌, length, get_or, refl, arith}
 use Rattle.std.proofs.lemmas.List.{length-take, length-drop}
-use Rattle.source.specs.Bytes.{part, val}
+use Rattle.source.specs.Bytes.{part, val, le}
 
 pub length_part : (xs : List ℕ) (p n : ℕ) → p + n ≤ length xs → length (part xs p n) ≡ n
 unfolding part
@@ -22,3 +22,14 @@ val_four (a ∷ (b ∷ [])) h = absurd (omega arith)
 val_four (a ∷ (b ∷ (c ∷ []))) h = absurd (omega arith)
 val_four (a ∷ (b ∷ (c ∷ (d ∷ [])))) h = omega arith
 val_four (a ∷ (b ∷ (c ∷ (d ∷ (e ∷ bs))))) h = absurd (omega arith)
+
+pub le_two : (n : ℕ) → le 2 n ≡ n % 256 ∷ n / 256 % 256 ∷ []
+unfolding le
+le_two n = refl
+
+pub le_four : (n : ℕ) → le 4 n ≡ n % 256 ∷ n / 256 % 256 ∷ n / 65536 % 256 ∷ n / 16777216 % 256 ∷ []
+unfolding le
+le_four n =
+    let a : n / 256 / 256 ≡ n / 65536 = omega arith in
+    let b : n / 256 / 256 / 256 ≡ n / 16777216 = omega arith in
+    rw (b, a)

@@ -1,3 +1,4 @@
 pub mod Scans
 pub mod Steps
+pub mod TextScans
 pub mod Texts

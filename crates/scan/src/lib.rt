@@ -1,16 +1,17 @@
 // Reading a part of a source in chunks, byte by byte: sums, texts, numbers.
 #![tactic(auto)]
 
-ghost use Rattle.std.specs.Prelude.{◌≡◌, ℕ, fold};
-ghost use Rattle.source.specs.Bytes.{val};
+ghost use Rattle.std.specs.Prelude.{◌≡◌, ℕ, Bool, List, fold};
 ghost use Rattle.source.specs.Content.{meaning};
 ghost use Rattle.scan.specs.Scans.{asked};
 
 use source::{Reason, Refusal, Source};
 
+mod little;
 mod sums;
 mod texts;
 
+pub use little::Number;
 pub use sums::checksum;
 pub use texts::{is_text8, is_text16};
 
@@ -24,15 +25,29 @@ pub trait Automaton: Copy {
         ensures { result ≡ step self byte };
 }
 
+// An automaton that tells which bytes are of a kind.
+pub trait Recognizer: Automaton {
+    ghost start: { Self };
+
+    ghost closed: { Self → Bool };
+
+    ghost accepts: { List ℕ → Bool };
+
+    fn start() -> Self
+        ensures { result ≡ start };
+
+    // Whether the bytes may end here.
+    fn closed(self) -> bool
+        ensures { result ≡ closed self };
+
+    ghost right: { (xs : List ℕ) → closed (fold Self.step start xs) ≡ accepts xs };
+}
+
 // The state after all of `bytes`.
 fn after_all<A: Automaton>(start: A, bytes: &[u8]) -> A
     ensures { result ≡ fold A.Automaton.step start bytes.now }
 {
-    let mut state = start;
-    for byte in bytes {
-        state = state.after(*byte);
-    }
-    state
+    bytes.iter().fold(start, |state, byte| state.after(*byte))
 }
 
 // The state after the `size` bytes from `place` on.
@@ -65,22 +80,15 @@ pub fn scan<S: Source, A: Automaton>(
     Ok(state)
 }
 
-// The two bytes at `place` as a number, the lower first.
-pub fn u16_at<S: Source>(source: &mut S, place: usize) -> Result<u16, Refusal>
+// Whether the `size` bytes from `place` on are of the kind.
+pub fn recognize<A: Recognizer, S: Source>(
+    source: &mut S,
+    place: usize,
+    size: usize,
+) -> Result<bool, Refusal>
     ensures same { S.Source.content source.new ≡ S.Source.content source.old }
-    ensures value { result ≡ asked val (meaning (S.Source.content source.old)) place 2 }
+    ensures value { result ≡ asked A.Recognizer.accepts (meaning (S.Source.content source.old)) place size }
 {
-    let mut pair = [0u8; 2];
-    source.fetch(place, &mut pair)?;
-    Ok(u16::from_le_bytes(pair))
-}
-
-// The four bytes at `place` as a number, the lowest first.
-pub fn u32_at<S: Source>(source: &mut S, place: usize) -> Result<u32, Refusal>
-    ensures same { S.Source.content source.new ≡ S.Source.content source.old }
-    ensures value { result ≡ asked val (meaning (S.Source.content source.old)) place 4 }
-{
-    let mut four = [0u8; 4];
-    source.fetch(place, &mut four)?;
-    Ok(u32::from_le_bytes(four))
+    let state = scan(source, place, size, A::start())?;
+    Ok(state.closed())
 }

@@ -4,8 +4,11 @@ ghost use Rattle.source.specs.Content.{meaning};
 ghost use Rattle.scan.specs.Scans.{asked};
 ghost use Rattle.scan.specs.Steps.{text_step, text_closed, unit_step, units_closed};
 ghost use Rattle.scan.specs.Texts.{is_text8, is_text16};
+ghost use Rattle.scan.specs.declared.texts.Text.TheVariants as text;
+ghost use Rattle.scan.specs.declared.texts.Units.TheVariants as units;
+ghost use Rattle.scan.specs.TextScans.{text_all, units_all};
 
-use crate::{Automaton, scan};
+use crate::{Automaton, Recognizer, recognize};
 use source::{Refusal, Source};
 
 // How far text has come: open before its zero byte, closed right behind it.
@@ -14,17 +17,6 @@ enum Text {
     Open,
     Closed,
     Broken,
-}
-
-impl Text {
-    fn closed(self) -> bool
-        ensures { result ≡ text_closed self }
-    {
-        match self {
-            Text::Closed => true,
-            _ => false,
-        }
-    }
 }
 
 impl Automaton for Text {
@@ -39,6 +31,24 @@ impl Automaton for Text {
     }
 }
 
+impl Recognizer for Text {
+    ghost start = { text.Open };
+
+    ghost closed = { text_closed };
+
+    ghost accepts = { is_text8 };
+
+    ghost right = { text_all };
+
+    fn start() -> Text {
+        Text::Open
+    }
+
+    fn closed(self) -> bool {
+        matches!(self, Text::Closed)
+    }
+}
+
 // How far UTF-16 text has come: open between two units, within one behind a zero or another byte, closed right behind its zero unit.
 #[derive(Clone, Copy)]
 enum Units {
@@ -47,17 +57,6 @@ enum Units {
     Other,
     Closed,
     Broken,
-}
-
-impl Units {
-    fn closed(self) -> bool
-        ensures { result ≡ units_closed self }
-    {
-        match self {
-            Units::Closed => true,
-            _ => false,
-        }
-    }
 }
 
 impl Automaton for Units {
@@ -74,13 +73,30 @@ impl Automaton for Units {
     }
 }
 
+impl Recognizer for Units {
+    ghost start = { units.Open };
+
+    ghost closed = { units_closed };
+
+    ghost accepts = { is_text16 };
+
+    ghost right = { units_all };
+
+    fn start() -> Units {
+        Units::Open
+    }
+
+    fn closed(self) -> bool {
+        matches!(self, Units::Closed)
+    }
+}
+
 // Whether the `size` bytes from `place` on are text: one zero byte, their last.
 pub fn is_text8<S: Source>(source: &mut S, place: usize, size: usize) -> Result<bool, Refusal>
     ensures same { S.Source.content source.new ≡ S.Source.content source.old }
     ensures value { result ≡ asked is_text8 (meaning (S.Source.content source.old)) place size }
 {
-    let text = scan(source, place, size, Text::Open)?;
-    Ok(text.closed())
+    recognize::<Text, S>(source, place, size)
 }
 
 // Whether the `size` bytes from `place` on are UTF-16 text: one zero unit, their last.
@@ -88,6 +104,5 @@ pub fn is_text16<S: Source>(source: &mut S, place: usize, size: usize) -> Result
     ensures same { S.Source.content source.new ≡ S.Source.content source.old }
     ensures value { result ≡ asked is_text16 (meaning (S.Source.content source.old)) place size }
 {
-    let units = scan(source, place, size, Units::Open)?;
-    Ok(units.closed())
+    recognize::<Units, S>(source, place, size)
 }

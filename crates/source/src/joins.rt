@@ -50,11 +50,7 @@ impl<A: Source, B: Source> Source for Join<A, B> {
     fn len(&self) -> usize {
         let a = self.first.len();
         let b = self.second.len();
-        if a + b < SOURCE_LIMIT {
-            a + b
-        } else {
-            SOURCE_LIMIT
-        }
+        (a + b).min(SOURCE_LIMIT)
     }
 
     fn fetch(&mut self, place: usize, buffer: &mut [u8]) -> Result<(), Refusal> {

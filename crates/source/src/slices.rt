@@ -47,10 +47,10 @@ impl<'a> Held<'a> {
 impl Source for Held<'_> {
     ghost content = { λ s. plain s.bytes.now };
 
+    #[tactic(auto, using(crate::proofs::Spans::length_clamped, crate::proofs::Spans::octets_clamped))]
     fn len(&self) -> usize {
         octets(self.bytes);
-        let n = self.bytes.len();
-        if n < SOURCE_LIMIT { n } else { SOURCE_LIMIT }
+        self.bytes.len().min(SOURCE_LIMIT)
     }
 
     fn fetch(&mut self, place: usize, buffer: &mut [u8]) -> Result<(), Refusal> {

@@ -51,9 +51,10 @@ impl<S: Source> Window<S> {
 impl<S: Source> Source for Window<S> {
     ghost content = { λ s. window s.start s.size (S.Source.content s.inner) };
 
+    #[tactic(auto, using(crate::proofs::Spans::octets_part))]
     fn len(&self) -> usize {
         let rest = self.inner.len().saturating_sub(self.start);
-        if self.size < rest { self.size } else { rest }
+        rest.min(self.size)
     }
 
     fn fetch(&mut self, place: usize, buffer: &mut [u8]) -> Result<(), Refusal> {

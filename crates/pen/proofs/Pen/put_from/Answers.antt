@@ -1,0 +1,17 @@
+use Rattle.std.proofs.Common.{◌≡◌, ◌+◌, ◌-◌, length, take, drop, refl, arith, rules}
+use Rattle.std.proofs.lemmas.List.{places}
+use Rattle.source.specs.Bytes.{part}
+use Rattle.scan.proofs.Numbers.{length_part}
+use Rattle.pen.proofs.Pens.{mid_told}
+use Rattle.pen.proofs.Pen.put_from.Goals as goal
+
+pub returns-in_default-clause-value : goal.returns-in_default-clause-value
+returns-in_default-clause-value g c = λ l. record { reference = refl; kept = refl; told = c.in_default.ensures _ (length_part _ _ _ l) }
+
+pub returns-in-Ok-clause-value : goal.returns-in-Ok-clause-value
+unfolding part
+returns-in-Ok-clause-value g c = λ l.
+    let s = c.in-Some.start in
+    let n : length (take (s + c.args.size - s) (drop s c.args.self.now.out.now)) ≡ c.args.size = search (rules, places) in
+    let (kept, told) = mid_told c.args.self.now.out.now s c.args.size _ _ (omega (arith, c.in-Some.ensures.1)) (length_part _ _ _ l) (rw n at c.in-Ok.ensures.value.1) in
+    record { reference = refl; kept = kept; told = rw c.in-Some.ensures.0 told }
