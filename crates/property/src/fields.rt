@@ -6,7 +6,7 @@ ghost use Rattle.source.specs.declared.refusals.Reason.TheVariants.{FieldEnd, Le
 ghost use Rattle.property.specs.Fields.{padded, field, number_at, sized};
 ghost use Rattle.property.specs.Rows.{sized_by};
 
-use scan::{u16_at, u32_at};
+use scan::Number;
 use source::{Reason, Refusal, Source};
 
 // Refuses a field that passes the end of the data, at the first byte of its property.
@@ -43,38 +43,21 @@ pub fn padded(size: usize) -> usize
     size + (4 - size % 4) % 4
 }
 
-// The two bytes at `place` as a number.
+// The number at `place`.
 #[tactic(auto, unfolding(crate::specs::Fields::number_at, crate::specs::Fields::field, scan::specs::Scans::asked))]
-pub(crate) fn number2<S: Source>(
+pub(crate) fn number<S: Source, N: Number>(
     source: &mut S,
     end: usize,
     start: usize,
     place: usize,
-) -> Result<u16, Refusal>
+) -> Result<N, Refusal>
     requires { end ≤ length (meaning (S.Source.content source.old)) }
     ensures same { S.Source.content source.new ≡ S.Source.content source.old }
-    ensures reads { result ≡ number_at (meaning (S.Source.content source.old)) end start place 2 }
-    ensures within { OnOk result (place + 2 ≤ end) }
+    ensures reads { N.is result (number_at (meaning (S.Source.content source.old)) end start place N.size) }
+    ensures within { OnOk result (place + N.size ≤ end) }
 {
-    fits(end, start, place, 2)?;
-    u16_at(source, place)
-}
-
-// The four bytes at `place` as a number.
-#[tactic(auto, unfolding(crate::specs::Fields::number_at, crate::specs::Fields::field, scan::specs::Scans::asked))]
-pub(crate) fn number4<S: Source>(
-    source: &mut S,
-    end: usize,
-    start: usize,
-    place: usize,
-) -> Result<u32, Refusal>
-    requires { end ≤ length (meaning (S.Source.content source.old)) }
-    ensures same { S.Source.content source.new ≡ S.Source.content source.old }
-    ensures reads { result ≡ number_at (meaning (S.Source.content source.old)) end start place 4 }
-    ensures within { OnOk result (place + 4 ≤ end) }
-{
-    fits(end, start, place, 4)?;
-    u32_at(source, place)
+    fits(end, start, place, N::size())?;
+    N::at(source, place)
 }
 
 // The GUID at `place`.
@@ -109,7 +92,7 @@ pub(crate) fn size_at<S: Source>(
     ensures reads { over (sized_by (meaning (S.Source.content source.old)) place) result ≡ sized (meaning (S.Source.content source.old)) end start place }
     ensures within { IfOk result (λ n. (n < 2 ^ 32) × (place + 4 + padded n ≤ end)) }
 {
-    let size = number4(source, end, start, place)? as usize;
+    let size = number::<S, u32>(source, end, start, place)? as usize;
     fits(end, start, place + 4, padded(size))?;
     Ok(size)
 }

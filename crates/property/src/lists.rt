@@ -5,7 +5,7 @@ ghost use Rattle.property.specs.Fields.{behind, done, repeated, data_end};
 ghost use Rattle.property.specs.Lists.{property_at, list_at, table_at, one_property, property_list, recipient_table};
 ghost use Rattle.property.specs.Rows.{ReadAt, ReadOne};
 
-use crate::fields::{ends_at, number2, number4};
+use crate::fields::{ends_at, number};
 use crate::names::key_at;
 use crate::repeats::behind_each;
 use crate::shape_of;
@@ -20,7 +20,7 @@ pub const LIST_LIMIT: u32 = 1024;
 pub const ROW_LIMIT: u32 = 1024;
 
 // The property at `place`.
-#[tactic(auto, unfolding(crate::specs::Lists::property_at))]
+#[tactic(auto, unfolding(crate::specs::Lists::property_at, crate::specs::Lists::property_from))]
 pub(crate) fn property_at<S: Source>(
     source: &mut S,
     end: usize,
@@ -31,7 +31,7 @@ pub(crate) fn property_at<S: Source>(
     ensures reads { ReadAt (meaning (S.Source.content source.old)) end (property_at (meaning (S.Source.content source.old)) end place) result }
     ensures within { IfOk result (λ row. row.next ≤ end) }
 {
-    let number = number2(source, end, place, place)?;
+    let number: u16 = number(source, end, place, place)?;
     let shape = shape_of(number).ok_or(Refusal {
         reason: Reason::FieldRule,
         place,
@@ -54,7 +54,7 @@ fn list_at<S: Source>(source: &mut S, end: usize, place: usize) -> Result<usize,
     ensures reads { result ≡ behind (list_at (meaning (S.Source.content source.old)) end place) }
     ensures within { IfOk result (λ n. n ≤ end) }
 {
-    let count = number4(source, end, place, place)?;
+    let count: u32 = number(source, end, place, place)?;
     if count > LIST_LIMIT {
         return Err(Refusal {
             reason: Reason::Limit,
@@ -74,7 +74,7 @@ fn table_at<S: Source>(source: &mut S, end: usize, place: usize) -> Result<usize
     ensures reads { result ≡ behind (table_at (meaning (S.Source.content source.old)) end place) }
     ensures within { IfOk result (λ n. n ≤ end) }
 {
-    let count = number4(source, end, place, place)?;
+    let count: u32 = number(source, end, place, place)?;
     if count > ROW_LIMIT {
         return Err(Refusal {
             reason: Reason::Limit,

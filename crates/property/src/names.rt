@@ -9,7 +9,7 @@ ghost use Rattle.property.specs.Fields.{data_end};
 ghost use Rattle.property.specs.Names.{name_number, name_string, name, key_at, one_key};
 ghost use Rattle.property.specs.Rows.{keyed};
 
-use crate::fields::{ends_at, guid_at, number2, number4, padded, size_at};
+use crate::fields::{ends_at, guid_at, number, padded, size_at};
 use index::{NAME_LIMIT, Name, PropertyKey};
 use scan::is_text16;
 use source::{Reason, Refusal, Source};
@@ -37,7 +37,7 @@ fn name_number<S: Source>(
     ensures reads { over keyed result ≡ name_number (meaning (S.Source.content source.old)) end start guid place }
     ensures within { IfOk result (λ k. k.next ≤ end) }
 {
-    let n = number4(source, end, start, place)?;
+    let n: u32 = number(source, end, start, place)?;
     Ok(Keyed {
         key: PropertyKey::Numbered(guid, n),
         next: place + 4,
@@ -108,7 +108,7 @@ fn name_at<S: Source>(
     ensures within { IfOk result (λ k. k.next ≤ end) }
 {
     let guid = guid_at(source, end, start, place)?;
-    let kind = number4(source, end, start, place + 16)?;
+    let kind: u32 = number(source, end, start, place + 16)?;
     match kind {
         0 => name_number(source, end, start, guid, place + 20),
         1 => name_string(source, end, start, guid, place + 20),
@@ -132,7 +132,7 @@ pub(crate) fn key_at<S: Source>(
     ensures reads { over keyed result ≡ key_at (meaning (S.Source.content source.old)) end start place }
     ensures within { IfOk result (λ k. k.next ≤ end) }
 {
-    let id = number2(source, end, start, place)?;
+    let id: u16 = number(source, end, start, place)?;
     if id < FIRST_NAMED {
         return Ok(Keyed {
             key: PropertyKey::Tag(id),

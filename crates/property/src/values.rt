@@ -7,7 +7,7 @@ ghost use Rattle.property.specs.Fields.{behind, repeated};
 ghost use Rattle.property.specs.Kinds.{admits};
 ghost use Rattle.property.specs.Values.{run_end, fixed_values, sized_value, sized_values, values_at};
 
-use crate::fields::{number4, padded, size_at};
+use crate::fields::{number, padded, size_at};
 use crate::repeats::behind_each;
 use crate::{Kind, Shape};
 use scan::{is_text8, is_text16};
@@ -68,7 +68,7 @@ fn fixed_values<S: Source>(
     if !several {
         return run_end(end, start, width, 1, place);
     }
-    let count = number4(source, end, start, place)?;
+    let count: u32 = number(source, end, start, place)?;
     run_end(end, start, width, count, place + 4)
 }
 
@@ -112,7 +112,7 @@ fn sized_values<S: Source>(
     ensures reads { result ≡ behind (sized_values (meaning (S.Source.content source.old)) end start kind several place) }
     ensures within { IfOk result (λ n. n ≤ end) }
 {
-    let count = number4(source, end, start, place)?;
+    let count: u32 = number(source, end, start, place)?;
     let right = if several { count >= 1 } else { count == 1 };
     if !right {
         return Err(Refusal {

@@ -14,8 +14,8 @@ loop-i-preserved g c =
     let q = c.in_ok-listed.ensures in
     let w = rw i.0 at q.reads in
     let d = c.args.count - (c.loop-i.i + 1) in
-    let n = count_added c.in_ok-listed.listed.count c.loop-i.used c.loop-i.lent c.add_at.new.lent w.0 w.4 w.5 in
-    (q.same ∙ i.0, q.within, omega (arith, n), (i.3.0 ++ w.1 ∷ [], i.3.1 ∙ front_more _ _ d _ _ (at w.1 c.in_ok-listed.listed.next) (omega arith) w.2, carried_more _ _ (take c.loop-i.used c.loop-i.lent) _ i.3.0 _ _ i.3.2 w.3 w.5))
+    let n = count_added c.in_ok-listed.listed.count c.loop-i.listed.count c.loop-i.lent c.add_at.new.lent w.0 w.4 w.5 in
+    (q.same ∙ i.0, q.within, omega (arith, n), (i.3.0 ++ w.1 ∷ [], i.3.1 ∙ front_more _ _ d _ _ (at w.1 c.in_ok-listed.listed.next) (omega arith) w.2, carried_more _ _ (take c.loop-i.listed.count c.loop-i.lent) _ i.3.0 _ _ i.3.2 w.3 w.5))
 
 pub returns-in_err-listed : goal.returns-in_err-listed
 returns-in_err-listed g c =
