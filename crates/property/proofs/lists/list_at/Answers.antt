@@ -1,7 +1,7 @@
 use Rattle.std.proofs.Common.{◌+◌, rules}
 use Rattle.source.specs.Content.{meaning}
 use Rattle.property.specs.Fields.{behind}
-use Rattle.property.specs.Lists.{property_at, list_at}
+use Rattle.property.specs.Lists.{list_at, property_at}
 use Rattle.property.proofs.Runs.{stepped_behind}
 use Rattle.property.proofs.lists.list_at.Goals as goal
 
