@@ -3,7 +3,7 @@ ghost use Rattle.std.specs.Prelude.{◌≡◌, ◌+◌, ◌^◌, ◌<◌, ◌≤
 ghost use Rattle.source.specs.Content.{meaning};
 ghost use Rattle.source.specs.Outcome.{need, over};
 ghost use Rattle.source.specs.declared.refusals.Reason.TheVariants.{FieldEnd, LeftOver};
-ghost use Rattle.property.specs.Fields.{padded, field, number_at, sized};
+ghost use Rattle.property.specs.Fields.{padded, field, number_at, count_at, sized};
 ghost use Rattle.property.specs.Rows.{sized_by};
 
 use scan::Number;
@@ -58,6 +58,29 @@ pub(crate) fn number<S: Source, N: Number>(
 {
     fits(end, start, place, N::size())?;
     N::at(source, place)
+}
+
+// The count at `place`, of no more than `limit`.
+#[tactic(auto, unfolding(crate::specs::Fields::count_at))]
+pub(crate) fn count_at<S: Source>(
+    source: &mut S,
+    end: usize,
+    place: usize,
+    limit: u32,
+) -> Result<u32, Refusal>
+    requires { end ≤ length (meaning (S.Source.content source.old)) }
+    ensures same { S.Source.content source.new ≡ S.Source.content source.old }
+    ensures reads { result ≡ count_at (meaning (S.Source.content source.old)) end place limit place }
+    ensures within { OnOk result (place + 4 ≤ end) }
+{
+    let count: u32 = number(source, end, place, place)?;
+    if count > limit {
+        return Err(Refusal {
+            reason: Reason::Limit,
+            place,
+        });
+    }
+    Ok(count)
 }
 
 // The GUID at `place`.

@@ -7,7 +7,7 @@ ghost use Rattle.property.specs.Indexing.{AddedAt, ListedBy, listed};
 ghost use Rattle.property.specs.Lists.{property_at, same_property};
 
 use crate::LIST_LIMIT;
-use crate::fields::number;
+use crate::fields::count_at;
 use crate::lists::property_at;
 use index::{PropertyRow, add};
 use source::{Reason, Refusal, Source};
@@ -63,7 +63,7 @@ fn rows_of<S: Source>(
 }
 
 // The index of the list at `place`, in rows that are lent for as many properties as a list can have.
-#[tactic(auto, unfolding(crate::specs::Indexing::listed, crate::specs::Lists::list_at))]
+#[tactic(auto, unfolding(crate::specs::Fields::count_at, crate::specs::Indexing::listed, crate::specs::Lists::list_at))]
 pub fn rows<S: Source>(
     source: &mut S,
     place: usize,
@@ -80,13 +80,7 @@ pub fn rows<S: Source>(
         });
     }
     let last = end.min(source.len());
-    let count: u32 = number(source, last, place, place)?;
-    if count > LIST_LIMIT {
-        return Err(Refusal {
-            reason: Reason::Limit,
-            place,
-        });
-    }
+    let count = count_at(source, last, place, LIST_LIMIT)?;
     rows_of(source, last, count, place + 4, lent)
 }
 

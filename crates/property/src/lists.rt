@@ -5,7 +5,7 @@ ghost use Rattle.property.specs.Fields.{behind, done, repeated, data_end};
 ghost use Rattle.property.specs.Lists.{property_at, list_at, table_at, one_property, property_list, recipient_table};
 ghost use Rattle.property.specs.Rows.{ReadAt, ReadOne};
 
-use crate::fields::{ends_at, number};
+use crate::fields::{count_at, ends_at, number};
 use crate::names::key_at;
 use crate::repeats::behind_each;
 use crate::shape_of;
@@ -47,40 +47,28 @@ pub(crate) fn property_at<S: Source>(
 }
 
 // The place behind the list at `place`.
-#[tactic(auto, unfolding(crate::specs::Lists::list_at))]
+#[tactic(auto, unfolding(crate::specs::Fields::count_at, crate::specs::Lists::list_at))]
 fn list_at<S: Source>(source: &mut S, end: usize, place: usize) -> Result<usize, Refusal>
     requires { end ≤ length (meaning (S.Source.content source.old)) }
     ensures same { S.Source.content source.new ≡ S.Source.content source.old }
     ensures reads { result ≡ behind (list_at (meaning (S.Source.content source.old)) end place) }
     ensures within { IfOk result (λ n. n ≤ end) }
 {
-    let count: u32 = number(source, end, place, place)?;
-    if count > LIST_LIMIT {
-        return Err(Refusal {
-            reason: Reason::Limit,
-            place,
-        });
-    }
+    let count = count_at(source, end, place, LIST_LIMIT)?;
     behind_each(source, end, count, place + 4, |source, here| {
         Ok(property_at(source, end, here)?.next)
     })
 }
 
 // The place behind the table at `place`.
-#[tactic(auto, unfolding(crate::specs::Lists::table_at))]
+#[tactic(auto, unfolding(crate::specs::Fields::count_at, crate::specs::Lists::table_at))]
 fn table_at<S: Source>(source: &mut S, end: usize, place: usize) -> Result<usize, Refusal>
     requires { end ≤ length (meaning (S.Source.content source.old)) }
     ensures same { S.Source.content source.new ≡ S.Source.content source.old }
     ensures reads { result ≡ behind (table_at (meaning (S.Source.content source.old)) end place) }
     ensures within { IfOk result (λ n. n ≤ end) }
 {
-    let count: u32 = number(source, end, place, place)?;
-    if count > ROW_LIMIT {
-        return Err(Refusal {
-            reason: Reason::Limit,
-            place,
-        });
-    }
+    let count = count_at(source, end, place, ROW_LIMIT)?;
     behind_each(source, end, count, place + 4, |source, here| {
         list_at(source, end, here)
     })
