@@ -40,7 +40,7 @@ pub fn padded(size: usize) -> usize
     requires { size < 2 ^ 32 }
     ensures { result ≡ padded size }
 {
-    size + (4 - size % 4) % 4
+    size.next_multiple_of(4)
 }
 
 // The number at `place`.
