@@ -44,23 +44,7 @@ fn name_number<S: Source>(
     })
 }
 
-// A name of the `n` bytes from `place` on.
-#[tactic(auto, unfolding(source::specs::Bytes::part))]
-fn name_of<S: Source>(
-    source: &mut S,
-    place: usize,
-    n: usize,
-) -> Result<Name, Refusal>
-    requires { (place + n ≤ length (meaning (S.Source.content source.old))) × (n ≤ name_limit) }
-    ensures same { S.Source.content source.new ≡ S.Source.content source.old }
-    ensures value { over name_text result ≡ Ok (part (meaning (S.Source.content source.old)) place n) }
-{
-    let mut buffer = [0; NAME_LIMIT];
-    source.fetch(place, &mut buffer[..n])?;
-    Ok(Name::new(&buffer[..n]).unwrap())
-}
-
-#[tactic(auto, using(scan::proofs::Numbers::length_part), unfolding(crate::specs::Names::name_string, scan::specs::Scans::asked))]
+#[tactic(auto, using(scan::proofs::Numbers::length_part), unfolding(crate::specs::Names::name_string, scan::specs::Scans::asked, source::specs::Bytes::part))]
 fn name_string<S: Source>(
     source: &mut S,
     end: usize,
@@ -74,20 +58,15 @@ fn name_string<S: Source>(
     ensures within { IfOk result (λ k. k.next ≤ end) }
 {
     let n = size_at(source, end, start, place)?;
-    if n > NAME_LIMIT {
+    if n > NAME_LIMIT || !is_text16(source, place + 4, n)? {
         return Err(Refusal {
             reason: Reason::FieldRule,
             place: start,
         });
     }
-    let closed = is_text16(source, place + 4, n)?;
-    if !closed {
-        return Err(Refusal {
-            reason: Reason::FieldRule,
-            place: start,
-        });
-    }
-    let text = name_of(source, place + 4, n)?;
+    let mut buffer = [0; NAME_LIMIT];
+    source.fetch(place + 4, &mut buffer[..n])?;
+    let text = Name::new(&buffer[..n]).unwrap();
     Ok(Keyed {
         key: PropertyKey::Named(guid, text),
         next: place + 4 + padded(n),
