@@ -7,7 +7,7 @@ ghost use Rattle.property.specs.Fields.{behind, repeated};
 ghost use Rattle.property.specs.Kinds.{admits};
 ghost use Rattle.property.specs.Values.{run_end, fixed_values, sized_value, sized_values, values_at};
 
-use crate::fields::{number, padded, size_at};
+use crate::fields::{fits, number, padded, size_at};
 use crate::repeats::behind_each;
 use crate::{Kind, Shape};
 use scan::{is_text8, is_text16};
@@ -36,17 +36,11 @@ fn admitted<S: Source>(
 // The place behind `count` values of `width` bytes, each padded.
 #[tactic(auto, unfolding(crate::specs::Values::run_end))]
 fn run_end(end: usize, start: usize, width: u8, count: u32, place: usize) -> Result<usize, Refusal>
-    requires { place ≤ end }
     ensures reads { result ≡ run_end end start width count place }
     ensures within { IfOk result (λ n. n ≤ end) }
 {
     let all = count as usize * padded(usize::from(width));
-    if all > end - place {
-        return Err(Refusal {
-            reason: Reason::FieldEnd,
-            place: start,
-        });
-    }
+    fits(end, start, place, all)?;
     Ok(place + all)
 }
 
