@@ -41,6 +41,7 @@ fn add_at<S: Source>(
 }
 
 // The index of `count` properties.
+#[tactic(auto, using(crate::proofs::Carrying::front_none))]
 fn rows_of<S: Source>(
     source: &mut S,
     end: usize,

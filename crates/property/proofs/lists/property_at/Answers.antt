@@ -8,7 +8,7 @@ use Rattle.property.specs.Lists.{property_from, property_at}
 use Rattle.property.specs.Names.{key_at}
 use Rattle.property.specs.Rows.{ReadAt}
 use Rattle.property.specs.Values.{values_at}
-use Rattle.property.proofs.Outcomes.{over_got}
+use Rattle.source.proofs.Outcomes.{over_got}
 use Rattle.property.proofs.lists.property_at.Goals as goal
 
 -- The row of a property whose type, key and values were read.
