@@ -1,13 +1,13 @@
 -- Rows that carry properties, one added after another.
-use Rattle.std.proofs.Common.{◌≡◌, ℕ, suc, ◌+◌, ◌<◌, ◌≤◌, false, List, [], ◌∷◌, ◌++◌, length, take, Ok, Err, sym, refl, ap, inl, inr, arith}
+use Rattle.std.proofs.Common.{◌≡◌, ℕ, suc, ◌+◌, ◌≤◌, false, List, [], ◌∷◌, ◌++◌, length, take, Ok, Err, sym, refl, ap, inl, inr, arith}
 use Rattle.std.proofs.lemmas.List.{append-nil, append_assoc, length_push, length-take, length-take-le}
 use Rattle.std.proofs.lemmas.List.Sums.{fold_push}
-use Rattle.std.proofs.lemmas.Bool.{cases_Bool, le-leb, lt-leb}
-use Rattle.source.specs.Outcome.{Outcome, ◌>>=◌, given, over, refused}
+use Rattle.std.proofs.lemmas.Bool.{cases_Bool, le-leb}
+use Rattle.source.specs.Outcome.{Outcome, ◌>>=◌, given, over}
 use Rattle.source.proofs.Outcomes.{bind_got, ok_same}
 use Rattle.source.specs.declared.refusals.Reason.TheVariants.{FieldRule}
 use Rattle.source.specs.declared.refusals.Refusal.{Refusal}
-use Rattle.index.specs.Keys.{Key, key_of}
+use Rattle.index.specs.Keys.{key_of}
 use Rattle.index.specs.Rows.{has, added}
 use Rattle.index.specs.declared.properties.PropertyRow.{PropertyRow}
 use Rattle.property.specs.Fields.{At, at, repeated}

@@ -15,5 +15,5 @@ invariant-loop-i g l =
       few : l.listed.count ≤ l.i;
       read : (ps : List Property)
           × (repeated (property_at xs l.end) l.count l.place ≡ behind_front ps (repeated (property_at xs l.end) (l.count - l.i) l.listed.next))
-          × Carried xs l.end (take l.listed.count l.lent) (indexed ps)
+          × Carried xs l.end (take l.listed.count l.lent) (indexed ps);
     }

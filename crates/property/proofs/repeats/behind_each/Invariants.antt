@@ -11,5 +11,5 @@ invariant-loop-i g l =
       same : g.S.Source.content l.source ≡ g.S.Source.content l.initial.source;
       within : l.here ≤ l.end;
       reads : (next : List ℕ → ℕ → Outcome ℕ) → Gives g.S.Source.content l.end (goal.F-post g l.one) next
-          → stepped (next xs) l.count l.place ≡ stepped (next xs) (l.count - l.i) l.here
+          → stepped (next xs) l.count l.place ≡ stepped (next xs) (l.count - l.i) l.here;
     }
