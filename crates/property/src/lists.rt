@@ -1,7 +1,7 @@
 // Properties, lists of them, and tables of lists.
 ghost use Rattle.std.specs.Prelude.{◌≡◌, ◌≤◌, length, IfOk};
 ghost use Rattle.source.specs.Content.{meaning};
-ghost use Rattle.property.specs.Fields.{behind, done, repeated, data_end};
+ghost use Rattle.property.specs.Fields.{behind, done, data_end};
 ghost use Rattle.property.specs.Lists.{property_at, list_at, table_at, one_property, property_list, recipient_table};
 ghost use Rattle.property.specs.Rows.{ReadAt, ReadOne};
 

@@ -1,10 +1,8 @@
 // The key of a property: its id, or from FIRST_NAMED on its name.
-ghost use Rattle.std.specs.Prelude.{◌≡◌, ◌+◌, ◌≤◌, length, IfOk, Ok};
-ghost use Rattle.source.specs.Bytes.{part};
+ghost use Rattle.std.specs.Prelude.{◌≡◌, ◌≤◌, length, IfOk};
 ghost use Rattle.source.specs.Content.{meaning};
 ghost use Rattle.source.specs.Outcome.{over};
-ghost use Rattle.index.specs.Keys.{key_of, name_text};
-ghost use Rattle.index.specs.Limits.{name_limit};
+ghost use Rattle.index.specs.Keys.{key_of};
 ghost use Rattle.property.specs.Fields.{data_end};
 ghost use Rattle.property.specs.Names.{name_number, name_string, name, key_at, one_key};
 ghost use Rattle.property.specs.Rows.{keyed};

@@ -3,7 +3,7 @@ ghost use Rattle.std.specs.Prelude.{◌≡◌, ◌+◌, ◌≤◌, length, IfOk,
 ghost use Rattle.source.specs.Bytes.{part};
 ghost use Rattle.source.specs.Content.{meaning};
 ghost use Rattle.property.specs.declared.kinds.Kind.{Kind as Sort};
-ghost use Rattle.property.specs.Fields.{behind, repeated};
+ghost use Rattle.property.specs.Fields.{behind};
 ghost use Rattle.property.specs.Kinds.{admits};
 ghost use Rattle.property.specs.Values.{run_end, fixed_values, sized_value, sized_values, values_at};
 

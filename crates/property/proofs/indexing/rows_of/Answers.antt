@@ -14,7 +14,7 @@ loop-i-preserved g c =
     record {
       same = q.same ∙ i.same;
       within = q.within;
-      few = omega (arith, count_added _ _ _ _ row fits added);
+      few = omega (arith, count_added c.in_ok-listed.listed.count c.loop-i.listed.count c.loop-i.lent c.add_at.new.lent row fits added);
       read = (ps ++ p ∷ [], read ∙ front_more _ _ d _ _ (at p _) (omega arith) is, carried_more _ _ _ _ ps _ _ carried carries added);
     }
 
