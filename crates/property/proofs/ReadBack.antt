@@ -1,9 +1,9 @@
 -- What was written is read again.
 use Rattle.std.proofs.Common.{◌≡◌, ℕ, zero, suc, ◌+◌, ◌-◌, ◌/◌, ◌^◌, ◌<◌, ◌≤◌, Bool, true, false, List, [], ◌∷◌, ◌++◌, length, take, drop, Some, None, Ok, Option, sym, refl, ap, ◌∙◌, arith}
 use Rattle.std.specs.List.{flat_map, AllByRecursion}
-use Rattle.std.proofs.lemmas.Nat.{div_below}
 use Rattle.std.proofs.lemmas.List.{length-append, length-replicate, take-take, take_at, drop_at, drop-take, drop-drop}
 use Rattle.std.proofs.lemmas.Bool.{eqb-true, le-leb, le-ltb, lt-ltb}
+use Rattle.scan.proofs.Numbers.{length_le, val_le}
 use Rattle.source.specs.Bytes.{part, val, le}
 use Rattle.source.specs.Outcome.{Outcome, ◌>>=◌}
 use Rattle.index.specs.Keys.{Key, tag, numbered, named}
@@ -19,19 +19,9 @@ use Rattle.property.specs.Validity.{ValidKey, OfKind, Counted, ValidValues, Vali
 use Rattle.property.specs.Values.{fixed_value, sized_value, fixed_values, sized_values, values_of, values_at}
 use Rattle.property.specs.Writing.{write_key, write_fixed, write_sized, write_values, write_shaped, write_property, after_key, write_properties, write_list, write_table}
 
-length_le : (w n : ℕ) → length (le w n) ≡ w
-unfolding le
-length_le zero n = refl
-length_le (suc w) n = ap suc (length_le w (n / 256))
-
-val_le : (w n : ℕ) → n < 256 ^ w → val (le w n) ≡ n
-unfolding le val
-val_le zero n h = omega arith
-val_le (suc w) n h = omega (arith, val_le w (n / 256) (div_below n 256 (256 ^ w) (omega arith) (omega arith)))
-
 length_filled : (a : List ℕ) → length (filled a) ≡ padded (length a)
 unfolding filled
-length_filled a = length-append a _ ∙ ap (λ n. length a + n) (length-replicate (padded (length a) - length a) 0) ∙ omega arith
+length_filled a = simp (length-append, length-replicate) (omega arith)
 
 module _ (xs : List ℕ) (end : ℕ) where
   split : (p : ℕ) (a b : List ℕ) → Stands xs end p (a ++ b) → Stands xs end p a × Stands xs end (p + length a) b
