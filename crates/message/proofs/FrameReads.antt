@@ -20,7 +20,7 @@ use Rattle.stream.specs.Reading.{Meant, Entry, Nature, plain, opening, page, row
 use Rattle.message.specs.Grammar.{◌▷◌, run, DataMean, Laid, frame_bytes, Right}
 use Rattle.message.proofs.Pieces.{drop_behind, part_left, part_split, get_or_left}
 use Rattle.message.proofs.Outcomes.{bind_ok, given_ok, over_ok}
-use Rattle.property.proofs.Outcomes.{err_not_ok, ok_same}
+use Rattle.source.proofs.Outcomes.{err_not_ok, ok_same}
 use Rattle.message.proofs.PropertyReads.{list_told, table_told}
 
 -- A frame by its id and what it means.

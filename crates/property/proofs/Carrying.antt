@@ -1,12 +1,13 @@
 -- Rows that carry properties, one added after another.
-use Rattle.std.proofs.Common.{◌≡◌, ℕ, suc, ◌+◌, ◌<◌, ◌≤◌, false, List, [], ◌∷◌, ◌++◌, length, take, Ok, Err, sym, refl, ap, inl, inr, arith}
+use Rattle.std.proofs.Common.{◌≡◌, ℕ, suc, ◌+◌, ◌≤◌, false, List, [], ◌∷◌, ◌++◌, length, take, Ok, Err, sym, refl, ap, inl, inr, arith}
 use Rattle.std.proofs.lemmas.List.{append-nil, append_assoc, length_push, length-take, length-take-le}
 use Rattle.std.proofs.lemmas.List.Sums.{fold_push}
-use Rattle.std.proofs.lemmas.Bool.{cases_Bool, le-leb, lt-leb}
-use Rattle.source.specs.Outcome.{Outcome, ◌>>=◌, given, over, refused}
-use Rattle.source.specs.declared.refusals.Reason.TheVariants.{FieldRule, ShortWork}
+use Rattle.std.proofs.lemmas.Bool.{cases_Bool, le-leb}
+use Rattle.source.specs.Outcome.{Outcome, ◌>>=◌, given, over}
+use Rattle.source.proofs.Outcomes.{bind_got, ok_same}
+use Rattle.source.specs.declared.refusals.Reason.TheVariants.{FieldRule}
 use Rattle.source.specs.declared.refusals.Refusal.{Refusal}
-use Rattle.index.specs.Keys.{Key, key_of}
+use Rattle.index.specs.Keys.{key_of}
 use Rattle.index.specs.Rows.{has, added}
 use Rattle.index.specs.declared.properties.PropertyRow.{PropertyRow}
 use Rattle.property.specs.Fields.{At, at, repeated}
@@ -15,25 +16,15 @@ use Rattle.property.specs.Kinds.{shape_of}
 use Rattle.property.specs.Lists.{Property, property_from, list_at, list_limit, same_property, indexed}
 use Rattle.property.specs.Rows.{Carries}
 use Rattle.property.specs.Values.{values_at}
-use Rattle.property.proofs.Outcomes.{err_not_ok}
-
-bind_got : {A B : Type 0} (o : Outcome A) (f : A → Outcome B) (b : B) → (o >>= f) ≡ Ok b → (a : A) × (f a ≡ Ok b)
-unfolding ◌>>=◌
-bind_got (Ok a) f b e = (a, e)
-bind_got (Err r) f b e = absurd (err_not_ok e)
 
 module _ (xs : List ℕ) (end : ℕ) where
   -- A row has the key of the property that it carries.
   pub carries_key : (row : PropertyRow) (p : Property) → Carries xs end row p → key_of row.key ≡ p.key
   unfolding property_from
   carries_key row p (start, e) =
-      let (s, f) = bind_got (given (shape_of row.number) FieldRule start) _ _ e in
-      let (v, h) = bind_got (values_at xs end start s row.values) _ _ f in
-      ap (λ (o : Outcome (At Property)). key_in (key_of row.key) o) h
-    where
-      key_in : Key → Outcome (At Property) → Key
-      key_in k (Ok a) = a.what.key
-      key_in k (Err r) = k
+      let (s, _, f) = bind_got (given (shape_of row.number) FieldRule start) _ _ (sym e) in
+      let (v, _, h) = bind_got (values_at xs end start s row.values) _ _ f in
+      sym (ap (λ (a : At Property). a.what.key) (ok_same _ _ h))
 
   has_carried : (rs : List PropertyRow) (ps : List Property) (row : PropertyRow) (p : Property) → Carried xs end rs ps → Carries xs end row p
       → has same_row rs row ≡ has same_property ps p
@@ -99,20 +90,16 @@ module _ {A : Type 0} (read : ℕ → Outcome (At A)) where
       regroup (Ok rest) = ap (λ l. Ok (at l rest.next)) (sym (append_assoc front (a.what ∷ []) rest.what))
       regroup (Err r) = refl
 
-  pub front_all : (p : ℕ) (front : List A) → behind_front front (repeated read 0 p) ≡ Ok (at front p)
+  pub front_all : (n p : ℕ) (front : List A) → n ≡ 0 → behind_front front (repeated read n p) ≡ Ok (at front p)
   unfolding repeated
-  front_all p front = rw (append-nil front)
+  front_all n p front e = rw (e, append-nil front)
 
 pub carried_more : (xs : List ℕ) (end : ℕ) (rs after : List PropertyRow) (ps : List Property) (row : PropertyRow) (p : Property)
     → Carried xs end rs (indexed ps) → Carries xs end row p → after ≡ added same_row false rs row → Carried xs end after (indexed (ps ++ p ∷ []))
 carried_more xs end rs after ps row p c h e = rw (e, indexed_more ps p) (carried_added xs end rs (indexed ps) row p c h)
 
--- The list where there is room for it, and where there is none.
+-- The list where there is room for it.
 module _ (xs : List ℕ) (end place room : ℕ) where
-  pub listed_short : room < list_limit → listed xs end place room ≡ refused ShortWork 0
-  unfolding listed
-  listed_short h = rw (lt-leb list_limit room h)
-
   pub listed_room : list_limit ≤ room → listed xs end place room ≡ list_at xs end place
   unfolding listed
   listed_room h = rw (le-leb list_limit room h)

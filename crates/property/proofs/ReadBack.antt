@@ -1,39 +1,27 @@
 -- What was written is read again.
 use Rattle.std.proofs.Common.{◌≡◌, ℕ, zero, suc, ◌+◌, ◌-◌, ◌/◌, ◌^◌, ◌<◌, ◌≤◌, Bool, true, false, List, [], ◌∷◌, ◌++◌, length, take, drop, Some, None, Ok, Option, sym, refl, ap, ◌∙◌, arith}
 use Rattle.std.specs.List.{flat_map, AllByRecursion}
-use Rattle.std.proofs.lemmas.Nat.{div_below}
 use Rattle.std.proofs.lemmas.List.{length-append, length-replicate, take-take, take_at, drop_at, drop-take, drop-drop}
-use Rattle.std.proofs.lemmas.Bool.{eqb-true, le-leb}
+use Rattle.std.proofs.lemmas.Bool.{eqb-true, le-leb, le-ltb, lt-ltb}
+use Rattle.scan.proofs.Numbers.{length_le, val_le}
 use Rattle.source.specs.Bytes.{part, val, le}
 use Rattle.source.specs.Outcome.{Outcome, ◌>>=◌}
 use Rattle.index.specs.Keys.{Key, tag, numbered, named}
+use Rattle.index.specs.Limits.{name_limit}
 use Rattle.property.specs.declared.kinds.Kind.{Kind}
 use Rattle.property.specs.declared.kinds.Shape.{Shape}
 use Rattle.property.specs.Fields.{At, at, padded, filled, repeated, field, number_at, sized}
 use Rattle.property.specs.Kinds.{Value, normal, width, shape_of}
-use Rattle.property.specs.Lists.{Property, property_from, property_at, list_at, table_at}
-use Rattle.property.specs.Names.{first_named, key_at}
+use Rattle.property.specs.Lists.{Property, property_from, property_at, list_limit, row_limit, list_at, table_at}
+use Rattle.property.specs.Names.{first_named, name_string, name_number, name, key_at}
 use Rattle.property.specs.Rows.{sized_by}
 use Rattle.property.specs.Validity.{ValidKey, OfKind, Counted, ValidValues, Valid, ValidList, ValidTable, Stands, IsReadBack}
 use Rattle.property.specs.Values.{fixed_value, sized_value, fixed_values, sized_values, values_of, values_at}
 use Rattle.property.specs.Writing.{write_key, write_fixed, write_sized, write_values, write_shaped, write_property, after_key, write_properties, write_list, write_table}
-use Rattle.property.proofs.Bounds.{field_got, size_got}
-use Rattle.property.proofs.KeyReads.{string_got, number_name_got, name_by_number, name_by_string, key_tag, key_name}
-use Rattle.property.proofs.ListReads.{list_go, table_go}
-
-length_le : (w n : ℕ) → length (le w n) ≡ w
-unfolding le
-length_le zero n = refl
-length_le (suc w) n = ap suc (length_le w (n / 256))
-
-val_le : (w n : ℕ) → n < 256 ^ w → val (le w n) ≡ n
-unfolding le val
-val_le zero n h = omega arith
-val_le (suc w) n h = omega (arith, val_le w (n / 256) (div_below n 256 (256 ^ w) (omega arith) (omega arith)))
 
 length_filled : (a : List ℕ) → length (filled a) ≡ padded (length a)
 unfolding filled
-length_filled a = length-append a _ ∙ ap (λ n. length a + n) (length-replicate (padded (length a) - length a) 0) ∙ omega arith
+length_filled a = simp (length-append, length-replicate) (omega arith)
 
 module _ (xs : List ℕ) (end : ℕ) where
   split : (p : ℕ) (a b : List ℕ) → Stands xs end p (a ++ b) → Stands xs end p a × Stands xs end (p + length a) b
@@ -66,22 +54,24 @@ module _ (xs : List ℕ) (end : ℕ) where
 
   module _ (start : ℕ) where
     number_back : (w n p : ℕ) → n < 256 ^ w → Stands xs end p (le w n) → Ok n ≡ number_at xs end start p w
-    unfolding number_at
+    unfolding number_at field
     number_back w n p h s =
         let l = length_le w n in
-        rw (← field_got xs end start p w (omega arith), rw l at s.1, val_le w n h)
+        rw (le-leb (p + w) end (omega arith), rw l at s.1, val_le w n h)
 
     field_back : (n p : ℕ) (g : List ℕ) → length g ≡ n → Stands xs end p g → Ok g ≡ field xs end start p n
-    field_back n p g l s = rw (← field_got xs end start p n (omega arith)) (ap Ok (sym (rw l at s.1)))
+    unfolding field
+    field_back n p g l s = rw (le-leb (p + n) end (omega arith), rw l at s.1)
 
     sized_back : (p : ℕ) (a : List ℕ) → length a < 256 ^ 4 → Stands xs end p (le 4 (length a) ++ filled a)
         → (Ok (sized_by xs p (length a)) ≡ sized xs end start p) × (part xs (p + 4) (length a) ≡ a) × (p + 4 + padded (length a) ≤ end)
+    unfolding sized
     sized_back p a h s =
         let (n, f) = split p (le 4 (length a)) (filled a) s in
         let g = moved _ (p + 4) _ (ap (λ n. p + n) (length_le 4 (length a))) f in
         let l = length_filled a in
         let fits : p + 4 + padded (length a) ≤ end = omega (arith, g.0) in
-        (size_got xs end start p (length a) (number_back 4 (length a) p h n) fits, (unfilled (p + 4) a g).1, fits)
+        (rw (← number_back 4 (length a) p h n, le-leb (p + 4 + padded (length a)) end fits), (unfilled (p + 4) a g).1, fits)
 
     -- A name: its number, its GUID, its kind, and what stands behind them.
     name_parts : (number kind p : ℕ) (g b : List ℕ) → length g ≡ 16 → kind < 256 ^ 4 → number < 256 ^ 2 → Stands xs end p (le 2 number ++ (g ++ (le 4 kind ++ b)))
@@ -101,18 +91,16 @@ module _ (xs : List ℕ) (end : ℕ) where
 
     key_back : end ≤ length xs → (number p : ℕ) (k : Key) → first_named ≤ number → number < 256 ^ 2 → ValidKey k → Stands xs end p (write_key number k)
         → Ok (at k (p + length (write_key number k))) ≡ key_at xs end start p
-    unfolding write_key
-    key_back l number p (tag i) a b v s = rw (length_le 2 i) (key_tag xs end start p i (number_back 2 i p (omega arith) s) v)
+    unfolding write_key key_at name name_number name_string
+    key_back l number p (tag i) a b v s = rw (length_le 2 i, ← number_back 2 i p (omega arith) s, lt-ltb i first_named v)
     key_back l number p (numbered g n) a b v s =
         let (i, f, k, r, w) = name_parts number 0 p g (le 4 n) v.0 (omega arith) b s in
-        rw (w, length_le 4 n)
-        (number_name_got xs end start g (p + 2 + 20) n (number_back 4 n (p + 2 + 20) v.1 r) ∙ name_by_number xs end start (p + 2) g f k ∙ key_name xs end start p number i a)
+        rw (w, length_le 4 n, ← i, le-ltb number first_named a, ← f, ← k, ← number_back 4 n (p + 2 + 20) v.1 r)
     key_back l number p (named g t) a b v s =
         let (i, f, k, r, w) = name_parts number 1 p g (le 4 (length t) ++ filled t) v.0 (omega arith) b s in
         let (e, q, fits) = sized_back (p + 2 + 20) t (omega arith) r in
         let n : p + 2 + 20 + length (le 4 (length t) ++ filled t) ≡ p + 2 + 20 + 4 + padded (length t) = omega (arith, length-append (le 4 (length t)) (filled t), length_le 4 (length t), length_filled t) in
-        rw (w, n)
-        (string_got xs end start g (p + 2 + 20) (length t) t e (omega arith) v.1 (rw q v.2) (sym q) ∙ name_by_string xs end start (p + 2) g f k ∙ key_name xs end start p number i a)
+        rw (w, n, ← i, le-ltb number first_named a, ← f, ← k, ← e, q, le-leb (length t) name_limit v.1, v.2)
 
     fixed_one_back : (k : Kind) (w p : ℕ) (v : Value) → width k ≡ Some w → OfKind k v → Stands xs end p (write_fixed v)
         → Ok (at v (p + length (write_fixed v))) ≡ fixed_value xs end start k w p
@@ -188,16 +176,16 @@ module _ (xs : List ℕ) (end : ℕ) where
         rw (e, ← property_back number p q a (omega arith) v.0 h, ← properties_back (after_key q.key number) (p + length (write_property number q)) ps (omega arith) (omega arith) v.1 t)
 
     list_back : (p : ℕ) (ps : List Property) → ValidList ps → Stands xs end p (write_list ps) → Ok (at ps (p + length (write_list ps))) ≡ list_at xs end p
-    unfolding write_list
+    unfolding write_list list_at
     list_back p ps v s =
         let (n, r, w) = count_parts p (length ps) p (write_properties first_named ps) (omega arith) s in
-        rw w (properties_back first_named (p + 4) ps (omega arith) (omega arith) v.0 r ∙ list_go xs end p (length ps) n v.1)
+        rw (w, ← n, le-leb (length ps) list_limit v.1) (properties_back first_named (p + 4) ps (omega arith) (omega arith) v.0 r)
 
     table_back : (p : ℕ) (rs : List (List Property)) → ValidTable rs → Stands xs end p (write_table rs) → Ok (at rs (p + length (write_table rs))) ≡ table_at xs end p
-    unfolding write_table
+    unfolding write_table table_at
     table_back p rs v s =
         let (n, r, w) = count_parts p (length rs) p (flat_map write_list rs) (omega arith) s in
-        rw w (repeated_back (list_at xs end) write_list ValidList (λ p ps v s. list_back p ps v s) (p + 4) rs v.0 r ∙ table_go xs end p (length rs) n v.1)
+        rw (w, ← n, le-leb (length rs) row_limit v.1) (repeated_back (list_at xs end) write_list ValidList (λ p ps v s. list_back p ps v s) (p + 4) rs v.0 r)
 
 pub read_back : IsReadBack
 read_back = record {

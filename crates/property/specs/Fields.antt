@@ -3,7 +3,7 @@
 use Rattle.std.specs.Prelude.{ℕ, zero, suc, ◌+◌, ◌-◌, ◌%◌, min, List, [], ◌∷◌, ◌++◌, length, replicate, Ok, ◌==◌, nat_le}
 use Rattle.source.specs.Bytes.{part, val}
 use Rattle.source.specs.Outcome.{Outcome, ◌>>=◌, ◌>>◌, need, over}
-use Rattle.source.specs.declared.refusals.Reason.TheVariants.{FieldEnd, LeftOver}
+use Rattle.source.specs.declared.refusals.Reason.TheVariants.{FieldEnd, LeftOver, Limit}
 
 -- How many bytes n are with their padding, which fills them up to a multiple of four.
 abbrev pub padded : ℕ → ℕ
@@ -56,6 +56,14 @@ module _ (xs : List ℕ) (end start : ℕ) where
 
   unfoldable pub number_at : ℕ → ℕ → Outcome ℕ
   number_at p n = over val (field p n)
+
+  -- A count, of no more than the limit.
+  unfoldable pub count_at : ℕ → ℕ → Outcome ℕ
+  unfolding ◌>>=◌ ◌>>◌
+  count_at limit p = do
+    n ← number_at p 4
+    need (nat_le n limit) Limit start
+    Ok n
 
   -- A size, its bytes and their padding.
   unfoldable pub sized : ℕ → Outcome (At (List ℕ))

@@ -3,6 +3,7 @@ pub mod Indexing
 pub mod Kinds
 pub mod Lists
 pub mod Names
+pub mod Repeats
 pub mod Rows
 pub mod Validity
 pub mod Values

@@ -1,12 +1,13 @@
 // The fields of a list: numbers, GUIDs, and bytes behind their size.
+// The source and the end of its data stay two parameters: were they one struct that is lent, each contract would have to say that the end stays.
 ghost use Rattle.std.specs.Prelude.{◌≡◌, ◌+◌, ◌^◌, ◌<◌, ◌≤◌, length, IfOk, OnOk, ◌==◌, nat_le};
 ghost use Rattle.source.specs.Content.{meaning};
 ghost use Rattle.source.specs.Outcome.{need, over};
 ghost use Rattle.source.specs.declared.refusals.Reason.TheVariants.{FieldEnd, LeftOver};
-ghost use Rattle.property.specs.Fields.{padded, field, number_at, sized};
+ghost use Rattle.property.specs.Fields.{padded, field, number_at, count_at, sized};
 ghost use Rattle.property.specs.Rows.{sized_by};
 
-use scan::{u16_at, u32_at};
+use scan::Number;
 use source::{Reason, Refusal, Source};
 
 // Refuses a field that passes the end of the data, at the first byte of its property.
@@ -40,42 +41,51 @@ pub fn padded(size: usize) -> usize
     requires { size < 2 ^ 32 }
     ensures { result ≡ padded size }
 {
-    size + (4 - size % 4) % 4
+    size.next_multiple_of(4)
 }
 
-// The two bytes at `place` as a number.
-pub(crate) fn number2<S: Source>(
+// The number at `place`.
+#[tactic(auto, unfolding(crate::specs::Fields::number_at, crate::specs::Fields::field, scan::specs::Scans::asked))]
+pub(crate) fn number<S: Source, N: Number>(
     source: &mut S,
     end: usize,
     start: usize,
     place: usize,
-) -> Result<u16, Refusal>
+) -> Result<N, Refusal>
     requires { end ≤ length (meaning (S.Source.content source.old)) }
     ensures same { S.Source.content source.new ≡ S.Source.content source.old }
-    ensures reads { result ≡ number_at (meaning (S.Source.content source.old)) end start place 2 }
-    ensures within { OnOk result (place + 2 ≤ end) }
+    ensures reads { N.is result (number_at (meaning (S.Source.content source.old)) end start place N.size) }
+    ensures within { OnOk result (place + N.size ≤ end) }
 {
-    fits(end, start, place, 2)?;
-    u16_at(source, place)
+    fits(end, start, place, N::size())?;
+    N::at(source, place)
 }
 
-// The four bytes at `place` as a number.
-pub(crate) fn number4<S: Source>(
+// The count at `place`, of no more than `limit`.
+#[tactic(auto, unfolding(crate::specs::Fields::count_at))]
+pub(crate) fn count_at<S: Source>(
     source: &mut S,
     end: usize,
-    start: usize,
     place: usize,
+    limit: u32,
 ) -> Result<u32, Refusal>
     requires { end ≤ length (meaning (S.Source.content source.old)) }
     ensures same { S.Source.content source.new ≡ S.Source.content source.old }
-    ensures reads { result ≡ number_at (meaning (S.Source.content source.old)) end start place 4 }
+    ensures reads { result ≡ count_at (meaning (S.Source.content source.old)) end place limit place }
     ensures within { OnOk result (place + 4 ≤ end) }
 {
-    fits(end, start, place, 4)?;
-    u32_at(source, place)
+    let count: u32 = number(source, end, place, place)?;
+    if count > limit {
+        return Err(Refusal {
+            reason: Reason::Limit,
+            place,
+        });
+    }
+    Ok(count)
 }
 
 // The GUID at `place`.
+#[tactic(auto, unfolding(crate::specs::Fields::field, source::specs::Bytes::part))]
 pub(crate) fn guid_at<S: Source>(
     source: &mut S,
     end: usize,
@@ -94,6 +104,7 @@ pub(crate) fn guid_at<S: Source>(
 }
 
 // The size at `place` of the bytes behind it, which end with their padding by `end`.
+#[tactic(auto, unfolding(crate::specs::Fields::sized))]
 pub(crate) fn size_at<S: Source>(
     source: &mut S,
     end: usize,
@@ -105,7 +116,7 @@ pub(crate) fn size_at<S: Source>(
     ensures reads { over (sized_by (meaning (S.Source.content source.old)) place) result ≡ sized (meaning (S.Source.content source.old)) end start place }
     ensures within { IfOk result (λ n. (n < 2 ^ 32) × (place + 4 + padded n ≤ end)) }
 {
-    let size = number4(source, end, start, place)? as usize;
+    let size = number::<S, u32>(source, end, start, place)? as usize;
     fits(end, start, place + 4, padded(size))?;
     Ok(size)
 }

@@ -7,7 +7,7 @@ ghost use Rattle.property.specs.Indexing.{AddedAt, ListedBy, listed};
 ghost use Rattle.property.specs.Lists.{property_at, same_property};
 
 use crate::LIST_LIMIT;
-use crate::fields::number4;
+use crate::fields::count_at;
 use crate::lists::property_at;
 use index::{PropertyRow, add};
 use source::{Reason, Refusal, Source};
@@ -33,16 +33,15 @@ fn add_at<S: Source>(
     ensures within { IfOk result (λ l. l.next ≤ end) }
 {
     let row = property_at(source, end, place)?;
-    match add(lent, used, row) {
-        Some(count) => Ok(Listed {
-            count,
-            next: row.next,
-        }),
-        None => unreachable(),
-    }
+    let count = add(lent, used, row).unwrap();
+    Ok(Listed {
+        count,
+        next: row.next,
+    })
 }
 
 // The index of `count` properties.
+#[tactic(auto, using(crate::proofs::Carrying::front_none))]
 fn rows_of<S: Source>(
     source: &mut S,
     end: usize,
@@ -54,20 +53,18 @@ fn rows_of<S: Source>(
     ensures same { S.Source.content source.new ≡ S.Source.content source.old }
     ensures reads { ListedBy (meaning (S.Source.content source.old)) end (repeated (property_at (meaning (S.Source.content source.old)) end) count place) lent.new result }
 {
-    let mut used = 0;
-    let mut here = place;
+    let mut listed = Listed {
+        count: 0,
+        next: place,
+    };
     for i in 0..count {
-        let listed = add_at(source, end, here, lent, used)?;
-        used = listed.count;
-        here = listed.next;
+        listed = add_at(source, end, listed.next, lent, listed.count)?;
     }
-    Ok(Listed {
-        count: used,
-        next: here,
-    })
+    Ok(listed)
 }
 
 // The index of the list at `place`, in rows that are lent for as many properties as a list can have.
+#[tactic(auto, unfolding(crate::specs::Fields::count_at, crate::specs::Indexing::listed, crate::specs::Lists::list_at))]
 pub fn rows<S: Source>(
     source: &mut S,
     place: usize,
@@ -84,13 +81,7 @@ pub fn rows<S: Source>(
         });
     }
     let last = end.min(source.len());
-    let count = number4(source, last, place, place)?;
-    if count > LIST_LIMIT {
-        return Err(Refusal {
-            reason: Reason::Limit,
-            place,
-        });
-    }
+    let count = count_at(source, last, place, LIST_LIMIT)?;
     rows_of(source, last, count, place + 4, lent)
 }
 

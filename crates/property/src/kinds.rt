@@ -42,13 +42,11 @@ fn single_kind(number: u16) -> Option<Kind>
 fn has_several(kind: Kind) -> bool
     ensures { result ≡ has_several kind }
 {
-    match kind {
-        Kind::YesNo | Kind::Object => false,
-        _ => true,
-    }
+    !matches!(kind, Kind::YesNo | Kind::Object)
 }
 
 // How the values of a type stand in a list, if there is such a type.
+#[tactic(auto, unfolding(crate::specs::Kinds::shape_of))]
 pub fn shape_of(number: u16) -> Option<Shape>
     ensures { result ≡ shape_of number }
 {
@@ -58,22 +56,11 @@ pub fn shape_of(number: u16) -> Option<Shape>
             several: false,
         });
     }
-    if number < SEVERAL {
-        return None;
-    }
-    match single_kind(number - SEVERAL) {
-        Some(kind) => {
-            if has_several(kind) {
-                Some(Shape {
-                    kind,
-                    several: true,
-                })
-            } else {
-                None
-            }
-        }
-        None => None,
-    }
+    let kind = single_kind(number.checked_sub(SEVERAL)?)?;
+    has_several(kind).then_some(Shape {
+        kind,
+        several: true,
+    })
 }
 
 // For every kind: normal bytes are admitted and mean the same value, and values are the same just where their normal bytes are.

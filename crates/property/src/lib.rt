@@ -6,6 +6,7 @@ mod indexing;
 mod kinds;
 mod lists;
 mod names;
+mod repeats;
 mod values;
 mod writing;
 

@@ -1,15 +1,13 @@
 // The key of a property: its id, or from FIRST_NAMED on its name.
-ghost use Rattle.std.specs.Prelude.{◌≡◌, ◌+◌, ◌≤◌, length, IfOk, Ok};
-ghost use Rattle.source.specs.Bytes.{part};
+ghost use Rattle.std.specs.Prelude.{◌≡◌, ◌≤◌, length, IfOk};
 ghost use Rattle.source.specs.Content.{meaning};
 ghost use Rattle.source.specs.Outcome.{over};
-ghost use Rattle.index.specs.Keys.{key_of, name_text};
-ghost use Rattle.index.specs.Limits.{name_limit};
+ghost use Rattle.index.specs.Keys.{key_of};
 ghost use Rattle.property.specs.Fields.{data_end};
 ghost use Rattle.property.specs.Names.{name_number, name_string, name, key_at, one_key};
 ghost use Rattle.property.specs.Rows.{keyed};
 
-use crate::fields::{ends_at, guid_at, number2, number4, padded, size_at};
+use crate::fields::{ends_at, guid_at, number, padded, size_at};
 use index::{NAME_LIMIT, Name, PropertyKey};
 use scan::is_text16;
 use source::{Reason, Refusal, Source};
@@ -24,6 +22,7 @@ pub struct Keyed {
     pub next: usize,
 }
 
+#[tactic(auto, unfolding(crate::specs::Names::name_number))]
 fn name_number<S: Source>(
     source: &mut S,
     end: usize,
@@ -36,31 +35,14 @@ fn name_number<S: Source>(
     ensures reads { over keyed result ≡ name_number (meaning (S.Source.content source.old)) end start guid place }
     ensures within { IfOk result (λ k. k.next ≤ end) }
 {
-    let n = number4(source, end, start, place)?;
+    let n: u32 = number(source, end, start, place)?;
     Ok(Keyed {
         key: PropertyKey::Numbered(guid, n),
         next: place + 4,
     })
 }
 
-// A name of the `n` bytes from `place` on.
-fn name_of<S: Source>(
-    source: &mut S,
-    place: usize,
-    n: usize,
-    mut buffer: [u8; NAME_LIMIT],
-) -> Result<Name, Refusal>
-    requires { (place + n ≤ length (meaning (S.Source.content source.old))) × (n ≤ name_limit) }
-    ensures same { S.Source.content source.new ≡ S.Source.content source.old }
-    ensures value { over name_text result ≡ Ok (part (meaning (S.Source.content source.old)) place n) }
-{
-    source.fetch(place, &mut buffer[0..n])?;
-    match Name::new(&buffer[0..n]) {
-        Some(name) => Ok(name),
-        None => unreachable(),
-    }
-}
-
+#[tactic(auto, using(scan::proofs::Numbers::length_part), unfolding(crate::specs::Names::name_string, scan::specs::Scans::asked, source::specs::Bytes::part))]
 fn name_string<S: Source>(
     source: &mut S,
     end: usize,
@@ -74,20 +56,15 @@ fn name_string<S: Source>(
     ensures within { IfOk result (λ k. k.next ≤ end) }
 {
     let n = size_at(source, end, start, place)?;
-    if n > NAME_LIMIT {
+    if n > NAME_LIMIT || !is_text16(source, place + 4, n)? {
         return Err(Refusal {
             reason: Reason::FieldRule,
             place: start,
         });
     }
-    let closed = is_text16(source, place + 4, n)?;
-    if !closed {
-        return Err(Refusal {
-            reason: Reason::FieldRule,
-            place: start,
-        });
-    }
-    let text = name_of(source, place + 4, n, [0; NAME_LIMIT])?;
+    let mut buffer = [0; NAME_LIMIT];
+    source.fetch(place + 4, &mut buffer[..n])?;
+    let text = Name::new(&buffer[..n]).unwrap();
     Ok(Keyed {
         key: PropertyKey::Named(guid, text),
         next: place + 4 + padded(n),
@@ -95,6 +72,7 @@ fn name_string<S: Source>(
 }
 
 // The name at `place`: a GUID, a kind, and a number or a string.
+#[tactic(auto, unfolding(crate::specs::Names::name))]
 fn name_at<S: Source>(
     source: &mut S,
     end: usize,
@@ -107,7 +85,7 @@ fn name_at<S: Source>(
     ensures within { IfOk result (λ k. k.next ≤ end) }
 {
     let guid = guid_at(source, end, start, place)?;
-    let kind = number4(source, end, start, place + 16)?;
+    let kind: u32 = number(source, end, start, place + 16)?;
     match kind {
         0 => name_number(source, end, start, guid, place + 20),
         1 => name_string(source, end, start, guid, place + 20),
@@ -119,6 +97,7 @@ fn name_at<S: Source>(
 }
 
 // The key at `place`.
+#[tactic(auto, unfolding(crate::specs::Names::key_at))]
 pub(crate) fn key_at<S: Source>(
     source: &mut S,
     end: usize,
@@ -130,7 +109,7 @@ pub(crate) fn key_at<S: Source>(
     ensures reads { over keyed result ≡ key_at (meaning (S.Source.content source.old)) end start place }
     ensures within { IfOk result (λ k. k.next ≤ end) }
 {
-    let id = number2(source, end, start, place)?;
+    let id: u16 = number(source, end, start, place)?;
     if id < FIRST_NAMED {
         return Ok(Keyed {
             key: PropertyKey::Tag(id),
@@ -141,6 +120,7 @@ pub(crate) fn key_at<S: Source>(
 }
 
 // The data from `base` to `end` as one key.
+#[tactic(auto, unfolding(crate::specs::Names::one_key, crate::specs::Fields::whole))]
 pub fn one_key<S: Source>(source: &mut S, base: usize, end: usize) -> Result<PropertyKey, Refusal>
     ensures same { S.Source.content source.new ≡ S.Source.content source.old }
     ensures reads { over key_of result ≡ one_key (meaning (S.Source.content source.old)) base (data_end (meaning (S.Source.content source.old)) end) }

@@ -3,16 +3,18 @@ ghost use Rattle.std.specs.Prelude.{◌≡◌, ◌+◌, ◌≤◌, length, IfOk,
 ghost use Rattle.source.specs.Bytes.{part};
 ghost use Rattle.source.specs.Content.{meaning};
 ghost use Rattle.property.specs.declared.kinds.Kind.{Kind as Sort};
-ghost use Rattle.property.specs.Fields.{behind, repeated};
+ghost use Rattle.property.specs.Fields.{behind};
 ghost use Rattle.property.specs.Kinds.{admits};
 ghost use Rattle.property.specs.Values.{run_end, fixed_values, sized_value, sized_values, values_at};
 
-use crate::fields::{number4, padded, size_at};
+use crate::fields::{fits, number, padded, size_at};
+use crate::repeats::behind_each;
 use crate::{Kind, Shape};
 use scan::{is_text8, is_text16};
 use source::{Reason, Refusal, Source};
 
 // Whether the `size` bytes from `place` on may be a value of a kind.
+#[tactic(auto, using(scan::proofs::Numbers::length_part), unfolding(scan::specs::Scans::asked))]
 fn admitted<S: Source>(
     source: &mut S,
     kind: Kind,
@@ -32,22 +34,18 @@ fn admitted<S: Source>(
 }
 
 // The place behind `count` values of `width` bytes, each padded.
+#[tactic(auto, unfolding(crate::specs::Values::run_end))]
 fn run_end(end: usize, start: usize, width: u8, count: u32, place: usize) -> Result<usize, Refusal>
-    requires { place ≤ end }
     ensures reads { result ≡ run_end end start width count place }
     ensures within { IfOk result (λ n. n ≤ end) }
 {
     let all = count as usize * padded(usize::from(width));
-    if all > end - place {
-        return Err(Refusal {
-            reason: Reason::FieldEnd,
-            place: start,
-        });
-    }
+    fits(end, start, place, all)?;
     Ok(place + all)
 }
 
 // The place behind one value of a fixed width, or behind a count and so many.
+#[tactic(auto, using(crate::proofs::Runs::run_all), unfolding(crate::specs::Values::fixed_values))]
 fn fixed_values<S: Source>(
     source: &mut S,
     end: usize,
@@ -64,11 +62,12 @@ fn fixed_values<S: Source>(
     if !several {
         return run_end(end, start, width, 1, place);
     }
-    let count = number4(source, end, start, place)?;
+    let count: u32 = number(source, end, start, place)?;
     run_end(end, start, width, count, place + 4)
 }
 
 // The place behind the value at `place`, behind its size.
+#[tactic(auto, unfolding(crate::specs::Values::sized_value))]
 fn value_at<S: Source>(
     source: &mut S,
     end: usize,
@@ -92,28 +91,8 @@ fn value_at<S: Source>(
     Ok(place + 4 + padded(n))
 }
 
-// The place behind `count` such values.
-fn sized_run<S: Source>(
-    source: &mut S,
-    end: usize,
-    start: usize,
-    kind: Kind,
-    count: u32,
-    place: usize,
-) -> Result<usize, Refusal>
-    requires { (end ≤ length (meaning (S.Source.content source.old))) × (place ≤ end) }
-    ensures same { S.Source.content source.new ≡ S.Source.content source.old }
-    ensures reads { result ≡ behind (repeated (sized_value (meaning (S.Source.content source.old)) end start kind) count place) }
-    ensures within { IfOk result (λ n. n ≤ end) }
-{
-    let mut here = place;
-    for i in 0..count {
-        here = value_at(source, end, start, kind, here)?;
-    }
-    Ok(here)
-}
-
 // The place behind a count and so many values, each behind its size.
+#[tactic(auto, unfolding(crate::specs::Values::sized_values))]
 fn sized_values<S: Source>(
     source: &mut S,
     end: usize,
@@ -127,7 +106,7 @@ fn sized_values<S: Source>(
     ensures reads { result ≡ behind (sized_values (meaning (S.Source.content source.old)) end start kind several place) }
     ensures within { IfOk result (λ n. n ≤ end) }
 {
-    let count = number4(source, end, start, place)?;
+    let count: u32 = number(source, end, start, place)?;
     let right = if several { count >= 1 } else { count == 1 };
     if !right {
         return Err(Refusal {
@@ -135,10 +114,13 @@ fn sized_values<S: Source>(
             place: start,
         });
     }
-    sized_run(source, end, start, kind, count, place + 4)
+    behind_each(source, end, count, place + 4, |source, here| {
+        value_at(source, end, start, kind, here)
+    })
 }
 
 // The place behind the values at `place`.
+#[tactic(auto, unfolding(crate::specs::Values::values_at))]
 pub(crate) fn values_at<S: Source>(
     source: &mut S,
     end: usize,

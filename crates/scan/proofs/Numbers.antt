@@ -1,5 +1,6 @@
 -- Little-endian numbers.
-use Rattle.std.proofs.Common.{◌≡◌, ℕ, ◌+◌, ◌*◌, ◌/◌, ◌%◌, ◌≤◌, List, [], ◌∷◌, length, get_or, refl, arith}
+use Rattle.std.proofs.Common.{◌≡◌, ℕ, zero, suc, ◌+◌, ◌*◌, ◌/◌, ◌%◌, ◌^◌, ◌<◌, ◌≤◌, List, [], ◌∷◌, length, get_or, refl, ap, arith}
+use Rattle.std.proofs.lemmas.Nat.{div_below}
 use Rattle.std.proofs.lemmas.List.{length-take, length-drop}
 use Rattle.source.specs.Bytes.{part, val, le}
 
@@ -33,3 +34,13 @@ le_four n =
     let a : n / 256 / 256 ≡ n / 65536 = omega arith in
     let b : n / 256 / 256 / 256 ≡ n / 16777216 = omega arith in
     rw (b, a)
+
+pub length_le : (w n : ℕ) → length (le w n) ≡ w
+unfolding le
+length_le zero n = refl
+length_le (suc w) n = ap suc (length_le w (n / 256))
+
+pub val_le : (w n : ℕ) → n < 256 ^ w → val (le w n) ≡ n
+unfolding le val
+val_le zero n h = omega arith
+val_le (suc w) n h = omega (arith, val_le w (n / 256) (div_below n 256 (256 ^ w) (omega arith) (omega arith)))

@@ -8,8 +8,12 @@ use Rattle.property.proofs.indexing.rows_of.Given as goal
 
 abbrev pub invariant-loop-i : goal.invariant-loop-i
 invariant-loop-i g l =
-    (g.S.Source.content l.source ≡ g.S.Source.content l.initial.source) × (l.here ≤ l.end) × (l.used ≤ l.i)
-    × ((ps : List Property)
-    × (repeated (property_at (meaning (g.S.Source.content l.initial.source)) l.end) l.count l.place
-    ≡ behind_front ps (repeated (property_at (meaning (g.S.Source.content l.initial.source)) l.end) (l.count - l.i) l.here))
-    × Carried (meaning (g.S.Source.content l.initial.source)) l.end (take l.used l.lent) (indexed ps))
+    let xs = meaning (g.S.Source.content l.initial.source) in
+    record {
+      same : g.S.Source.content l.source ≡ g.S.Source.content l.initial.source;
+      within : l.listed.next ≤ l.end;
+      few : l.listed.count ≤ l.i;
+      read : (ps : List Property)
+          × (repeated (property_at xs l.end) l.count l.place ≡ behind_front ps (repeated (property_at xs l.end) (l.count - l.i) l.listed.next))
+          × Carried xs l.end (take l.listed.count l.lent) (indexed ps);
+    }

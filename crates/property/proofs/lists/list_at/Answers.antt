@@ -1,22 +1,13 @@
-use Rattle.std.proofs.Common.{ap, ◌∙◌, arith}
-use Rattle.std.proofs.lemmas.Result.{err_from_is_err_and}
-use Rattle.property.specs.Fields.{behind}
-use Rattle.property.proofs.ListReads.{list_short, list_long, list_go}
+use Rattle.std.proofs.Common.{◌+◌, rules}
+use Rattle.source.specs.Content.{meaning}
+use Rattle.property.specs.Fields.{behind, count_at}
+use Rattle.property.specs.Lists.{list_at, property_at}
+use Rattle.property.proofs.Runs.{stepped_behind}
 use Rattle.property.proofs.lists.list_at.Goals as goal
 
-pub returns-in_err-count : goal.returns-in_err-count
-returns-in_err-count g c =
-    let p = err_from_is_err_and c.from_residual.result c.from_residual.ensures.1 in
-    let h = c.in_err-count.ensures in
-    rw (p.1, p.2) (record { same = h.same; reads = ap behind (list_short _ _ _ _ h.reads); within = tt })
-
-pub returns-then-count-gt-LIST_LIMIT : goal.returns-then-count-gt-LIST_LIMIT
-returns-then-count-gt-LIST_LIMIT g c =
-    let h = c.in_ok-count.ensures in
-    record { same = h.same; reads = ap behind (list_long _ _ _ _ h.reads (omega arith)); within = tt }
-
-pub returns : goal.returns
-returns g c =
-    let h = c.in_ok-count.ensures in
-    let q = c.properties_at.ensures in
-    record { same = q.same ∙ h.same; reads = (rw h.same at q.reads) ∙ ap behind (list_go _ _ _ _ h.reads (omega arith)); within = q.within }
+pub returns-clause-reads : goal.returns-clause-reads
+unfolding count_at list_at
+returns-clause-reads g c =
+    let e = c.behind_each.ensures.reads (λ xs p. behind (property_at xs c.args.end p)) (λ x y p r h k. search rules) in
+    let s = stepped_behind (property_at (meaning (g.S.Source.content c.args.source.now)) c.args.end) c.in_ok-count.count (c.args.place + 4) in
+    search rules

@@ -1,45 +1,29 @@
-use Rattle.std.proofs.Common.{◌∙◌}
-use Rattle.std.proofs.lemmas.Result.{err_from_is_err_and}
-use Rattle.property.proofs.ListReads.{property_short, property_other, property_keyless, property_lost, property_got}
+use Rattle.std.proofs.Common.{◌≡◌, ℕ, ◌+◌, List, Some, Ok}
+use Rattle.index.specs.Keys.{key_of}
+use Rattle.index.specs.declared.keys.PropertyKey.{PropertyKey}
+use Rattle.property.specs.declared.kinds.Shape.{Shape}
+use Rattle.property.specs.Fields.{At, at, number_at}
+use Rattle.property.specs.Kinds.{Value, shape_of}
+use Rattle.property.specs.Lists.{property_from, property_at}
+use Rattle.property.specs.Names.{key_at}
+use Rattle.property.specs.Rows.{ReadAt}
+use Rattle.property.specs.Values.{values_at}
+use Rattle.source.proofs.Outcomes.{over_got}
 use Rattle.property.proofs.lists.property_at.Goals as goal
 
-pub returns-in_err-number : goal.returns-in_err-number
-returns-in_err-number g c =
-    let p = err_from_is_err_and c.from_residual.result c.from_residual.ensures.1 in
-    let h = c.in_err-number.ensures in
-    rw (p.1, p.2) (record { same = h.same; reads = property_short _ _ _ _ h.reads; within = tt })
+-- The row of a property whose type, key and values were read.
+stands : (xs : List ℕ) (end p t n v : ℕ) (s : Shape) (k : PropertyKey) (a : At (List Value)) → Ok t ≡ number_at xs end p p 2 → Some s ≡ shape_of t
+    → Ok (at (key_of k) v) ≡ key_at xs end p (p + 2) → (Ok a ≡ values_at xs end p s v) × (n ≡ a.next)
+    → ReadAt xs end (property_at xs end p) (Ok (record { key = k; number = t; values = v; next = n }))
+unfolding property_at property_from
+stands xs end p t n v s k a e f i w =
+    (record { key = key_of k; type = t; values = a.what }, rw (← e, ← f, ← i, ← w.0, w.1), (p, rw (← f, ← w.0, w.1)))
 
-pub returns-in-None : goal.returns-in-None
-returns-in-None g c =
-    let h = c.in_ok-number.ensures in
-    record { same = h.same; reads = property_other _ _ _ _ h.reads c.in-None.ensures; within = tt }
-
-pub returns-in_err-found : goal.returns-in_err-found
-returns-in_err-found g c =
-    let p = err_from_is_err_and c.from_residual-in_err-found.result c.from_residual-in_err-found.ensures.1 in
-    let h = c.in_ok-number.ensures in
-    let k = c.in_err-found.ensures in
-    rw (p.1, p.2) (record { same = k.same ∙ h.same; reads = property_keyless _ _ _ _ _ _ h.reads c.in-Some.ensures (rw h.same at k.reads); within = tt })
-
-pub returns-in_err-next : goal.returns-in_err-next
-returns-in_err-next g c =
-    let p = err_from_is_err_and c.from_residual-in_err-next.result c.from_residual-in_err-next.ensures.1 in
-    let h = c.in_ok-number.ensures in
-    let k = c.in_ok-found.ensures in
-    let v = c.in_err-next.ensures in
-    rw (p.1, p.2) (record {
-      same = v.same ∙ k.same ∙ h.same;
-      reads = property_lost _ _ _ _ _ _ _ h.reads c.in-Some.ensures (rw h.same at k.reads) (rw (k.same, h.same) at v.reads);
-      within = tt;
-    })
-
-pub returns : goal.returns
-returns g c =
+pub returns-clause-reads : goal.returns-clause-reads
+returns-clause-reads g c =
     let h = c.in_ok-number.ensures in
     let k = c.in_ok-found.ensures in
     let v = c.in_ok-next.ensures in
-    record {
-      same = v.same ∙ k.same ∙ h.same;
-      reads = property_got _ _ _ _ _ _ _ _ h.reads c.in-Some.ensures (rw h.same at k.reads) (rw (k.same, h.same) at v.reads);
-      within = v.within;
-    }
+    let w = over_got _ _ _ (rw (k.same, h.same) at v.reads) in
+    let f : Some c.in_ok-shape.shape ≡ shape_of c.in_ok-number.number = cc (c.in_ok-shape.ensures.ok_part) in
+    stands _ _ _ _ _ _ _ _ w.0 h.reads f (rw h.same at k.reads) (w.1, w.2)
