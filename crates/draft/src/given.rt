@@ -17,20 +17,15 @@ pub(crate) fn contents_given(rule: Rule, bytes: &[u8]) -> Result<(), Refusal>
     ensures judged { result ≡ over (λ _. tt) (given_contents rule bytes.now) }
     ensures short { OnOk result (length bytes.now ≤ source_limit) }
 {
-    match Held::new(bytes) {
-        Ok(mut source) => {
-            let size = bytes.len();
-            let good = admits(&mut source, rule, 0, size)?;
-            if !good {
-                return Err(Refusal {
-                    reason: Reason::NotAdmitted,
-                    place: 0,
-                });
-            }
-            Ok(())
-        }
-        Err(refusal) => Err(refusal),
+    let mut source = Held::new(bytes)?;
+    let good = admits(&mut source, rule, 0, bytes.len())?;
+    if !good {
+        return Err(Refusal {
+            reason: Reason::NotAdmitted,
+            place: 0,
+        });
     }
+    Ok(())
 }
 
 // The bytes as one property.
@@ -38,18 +33,14 @@ pub(crate) fn property_given(bytes: &[u8]) -> Result<PropertyRow, Refusal>
     ensures judged { ReadOne bytes.now (length bytes.now) (given_property bytes.now) result }
     ensures short { OnOk result (length bytes.now ≤ source_limit) }
 {
-    match Held::new(bytes) {
-        Ok(mut source) => one_property(&mut source, 0, bytes.len()),
-        Err(refusal) => Err(refusal),
-    }
+    let mut source = Held::new(bytes)?;
+    one_property(&mut source, 0, bytes.len())
 }
 
 // The bytes as the key of a property.
 pub(crate) fn key_given(bytes: &[u8]) -> Result<PropertyKey, Refusal>
     ensures { over key_of result ≡ given_key bytes.now }
 {
-    match Held::new(bytes) {
-        Ok(mut source) => one_key(&mut source, 0, bytes.len()),
-        Err(refusal) => Err(refusal),
-    }
+    let mut source = Held::new(bytes)?;
+    one_key(&mut source, 0, bytes.len())
 }

@@ -4,7 +4,7 @@
 ghost use Rattle.std.specs.Prelude.{◌≡◌, ℕ, ◌-◌, ◌≤◌, ◌&&◌, ◌++◌, length, take, replicate, IfOk, Some, Ok};
 ghost use Rattle.source.specs.Bytes.{le};
 ghost use Rattle.scan.specs.Scans.{checksum};
-ghost use Rattle.pen.specs.Pen.{Penned};
+ghost use Rattle.pen.specs.Pen.{Wrote};
 ghost use Rattle.source.specs.Content.{meaning};
 ghost use Rattle.source.specs.Outcome.{over};
 ghost use Rattle.stream.specs.Messages.{read};
@@ -20,9 +20,10 @@ mod given;
 mod opening;
 mod rewriting;
 
+pub use edits::Edit;
 use form::restate;
 use index::{PropertyKey, PropertyRow};
-use pen::{pen, pen_le16, pen_le32};
+use pen::Pen;
 use property::LIST_LIMIT;
 use source::{Reason, Refusal, Source};
 
@@ -46,6 +47,19 @@ pub struct Draft<'a> {
     size: usize,
 }
 
+// Refuses work memory that is too little for an area of `room` bytes.
+fn enough(bytes: &[u8], rows: &[PropertyRow], room: usize) -> Result<(), Refusal>
+    ensures { result ≡ need (enough (memory bytes.now rows.now) room) ShortWork 0 }
+{
+    if bytes.len() < room || rows.len() < LIST_LIMIT as usize {
+        return Err(Refusal {
+            reason: Reason::ShortWork,
+            place: 0,
+        });
+    }
+    Ok(())
+}
+
 fn clear(rows: &mut [PropertyRow])
     ensures { rows.new ≡ replicate (length rows.old) blank_row }
 {
@@ -63,12 +77,7 @@ fn restate_within<S: Source>(
     ensures outcome { result ≡ over length (loaded (memory bytes.old rows.old) room (meaning (S.Source.content source.old))) }
     ensures form { Front (loaded (memory bytes.old rows.old) room (meaning (S.Source.content source.old))) bytes.new }
 {
-    if bytes.len() < room || rows.len() < LIST_LIMIT as usize {
-        return Err(Refusal {
-            reason: Reason::ShortWork,
-            place: 0,
-        });
-    }
+    enough(bytes, rows, room)?;
     restate(source, rows, &mut bytes[0..room])
 }
 
@@ -86,13 +95,13 @@ fn sum_of(number: u32) -> u16
     u16::from(a) + u16::from(b) + u16::from(c) + u16::from(d)
 }
 
-fn pen_blank(out: &mut [u8], primary: u32) -> Option<usize>
-    ensures { Penned out.old (Some 0) (written (blank primary)) out.new result }
+fn pen_blank(pen: &mut Pen<'_>, primary: u32)
+    ensures { Wrote pen.old (written (blank primary)) pen.new }
 {
-    let a = pen(out, Some(0), FRONT);
-    let b = pen_le32(out, a, primary);
-    let c = pen_le32(out, b, 0);
-    pen_le16(out, c, sum_of(primary))
+    pen.put(FRONT);
+    pen.put_le(primary);
+    pen.put_le(0u32);
+    pen.put_le(sum_of(primary));
 }
 
 // Writes a blank form within the first `room` of the work bytes.
@@ -105,19 +114,13 @@ fn begin_within(
     ensures outcome { result ≡ over length (begun (memory bytes.old rows.now) room primary) }
     ensures form { Front (begun (memory bytes.old rows.now) room primary) bytes.new }
 {
-    if bytes.len() < room || rows.len() < LIST_LIMIT as usize {
-        return Err(Refusal {
-            reason: Reason::ShortWork,
-            place: 0,
-        });
-    }
-    match pen_blank(&mut bytes[0..room], primary) {
-        Some(n) => Ok(n),
-        None => Err(Refusal {
-            reason: Reason::FormTooLong,
-            place: 0,
-        }),
-    }
+    enough(bytes, rows, room)?;
+    let mut pen = Pen::new(&mut bytes[0..room]);
+    pen_blank(&mut pen, primary);
+    pen.here.ok_or(Refusal {
+        reason: Reason::FormTooLong,
+        place: 0,
+    })
 }
 
 // The first `n` of the bytes, and zeros behind them.
@@ -207,12 +210,6 @@ impl<'a> Draft<'a> {
     }
 }
 
-fn equal(a: &[u8], b: &[u8]) -> bool
-    ensures { result ≡ bytes_eq a.now b.now }
-{
-    a == b
-}
-
 // Whether two sources carry the same message, by the forms that loading them leaves in two drafts.
 pub fn same_message<A: Source, B: Source>(
     first: &mut A,
@@ -245,7 +242,7 @@ pub fn same_message<A: Source, B: Source>(
         first,
     )?;
     other.load(Work { bytes, rows }, second)?;
-    Ok(equal(one.form(), other.form()))
+    Ok(one.form() == other.form())
 }
 
 // Two accepted loads leave equal bytes exactly for the same message.

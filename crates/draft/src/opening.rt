@@ -8,10 +8,9 @@ ghost use Rattle.stream.specs.Messages.{read};
 ghost use Rattle.draft.specs.Drafts.{memory};
 ghost use Rattle.draft.specs.Calls.{state, if_written, opened};
 
-use crate::equal;
+use crate::enough;
 use form::restate;
 use index::PropertyRow;
-use property::LIST_LIMIT;
 use source::{Held, Reason, Refusal, SOURCE_LIMIT, Source};
 
 const NOT_WRITTEN: Refusal = Refusal {
@@ -26,18 +25,16 @@ fn is_written(form: &[u8], bytes: &mut [u8], rows: &mut [PropertyRow]) -> Result
     requires room { list_limit ≤ length rows.old }
     ensures { result ≡ over (λ _. tt) (given (if_written form.now (read form.now)) NotWritten 0) }
 {
-    match Held::new(form) {
-        Ok(mut source) => match restate(&mut source, rows, bytes) {
-            Ok(n) => {
-                if equal(&bytes[0..n], form) {
-                    return Ok(());
-                }
-                Err(NOT_WRITTEN)
-            }
-            Err(_) => Err(NOT_WRITTEN),
-        },
-        Err(_) => Err(NOT_WRITTEN),
+    let Ok(mut source) = Held::new(form) else {
+        return Err(NOT_WRITTEN);
+    };
+    let Ok(n) = restate(&mut source, rows, bytes) else {
+        return Err(NOT_WRITTEN);
+    };
+    if &bytes[0..n] != form {
+        return Err(NOT_WRITTEN);
     }
+    Ok(())
 }
 
 // Refuses work memory that is too little, and a draft that is not a written form.
@@ -49,12 +46,7 @@ pub(crate) fn open(
 ) -> Result<(), Refusal>
     ensures { result ≡ over (λ _. tt) (opened (memory bytes.old rows.old) (state area.now size)) }
 {
-    if bytes.len() < area.len() || rows.len() < LIST_LIMIT as usize {
-        return Err(Refusal {
-            reason: Reason::ShortWork,
-            place: 0,
-        });
-    }
+    enough(bytes, rows, area.len())?;
     if size > area.len() || size > SOURCE_LIMIT {
         return Err(NOT_WRITTEN);
     }

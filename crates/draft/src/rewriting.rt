@@ -18,6 +18,7 @@ use crate::edits::Edit;
 use crate::opening::open;
 use amend::{Amendment, amend};
 use index::PropertyRow;
+use pen::Pen;
 use source::{Held, Reason, Refusal, SOURCE_LIMIT, Source};
 
 // The bytes that an edit puts; what it drops or removes is told otherwise.
@@ -25,9 +26,9 @@ fn put_by<'a>(edit: Edit<'a>) -> &'a [u8]
     ensures { result.now ≡ put_by edit.entry }
 {
     match edit {
-        Edit::PutAttribute(_, _, bytes) => bytes,
-        Edit::PutProperty(_, bytes) => bytes,
-        Edit::AddAttachment(bytes) => bytes,
+        Edit::PutAttribute(_, _, bytes)
+        | Edit::PutProperty(_, bytes)
+        | Edit::AddAttachment(bytes) => bytes,
         _ => b"",
     }
 }
@@ -52,16 +53,13 @@ fn rewrite<S: Source>(
         → Front (fitted room (amended s (message_in (meaning (S.Source.content source.old))))) bytes.new }
 {
     let most = room.min(SOURCE_LIMIT);
-    match Held::new(put) {
-        Ok(mut input) => match amend(source, &mut input, amendment, rows, &mut bytes[0..most]) {
-            Some(n) => Ok(n),
-            None => Err(Refusal {
-                reason: Reason::FormTooLong,
-                place: 0,
-            }),
-        },
-        Err(refusal) => Err(refusal),
-    }
+    let mut input = Held::new(put)?;
+    let mut pen = Pen::new(&mut bytes[0..most]);
+    amend(source, &mut input, amendment, rows, &mut pen);
+    pen.here.ok_or(Refusal {
+        reason: Reason::FormTooLong,
+        place: 0,
+    })
 }
 
 // Writes the form of an edited draft within as many of the work bytes as the area has.
@@ -77,11 +75,7 @@ pub(crate) fn edit_within(
 {
     open(area, size, bytes, rows)?;
     let room = area.len();
-    match Held::new(&area[0..size]) {
-        Ok(mut source) => {
-            let amendment = checking::check(&mut source, edit, rows)?;
-            rewrite(&mut source, put_by(edit), amendment, room, bytes, rows)
-        }
-        Err(refusal) => Err(refusal),
-    }
+    let mut source = Held::new(&area[0..size])?;
+    let amendment = checking::check(&mut source, edit, rows)?;
+    rewrite(&mut source, put_by(edit), amendment, room, bytes, rows)
 }
