@@ -1,8 +1,8 @@
 // The attributes that a stream can have: their ids, levels and rules.
 #![tactic(auto)]
 
-ghost use Rattle.std.specs.Prelude.{◌≡◌};
-ghost use Rattle.attribute.specs.Table.{attributes, find, attribute_of, Sound};
+ghost use Rattle.std.specs.Prelude.{◌≡◌, ◌==◌, find as first_such};
+ghost use Rattle.attribute.specs.Table.{attributes, attribute_of, Sound};
 
 mod names;
 mod table;
@@ -41,14 +41,9 @@ pub struct Attribute {
 
 // The first attribute of `table` that has the id.
 fn find_in(table: &[Attribute], id: u32) -> Option<Attribute>
-    ensures { result ≡ find table.now id }
+    ensures { result ≡ first_such (λ a. a.id == id) table.now }
 {
-    for attribute in table {
-        if attribute.id == id {
-            return Some(*attribute);
-        }
-    }
-    None
+    table.iter().copied().find(|attribute| attribute.id == id)
 }
 
 // The attribute that has the id, if any has.

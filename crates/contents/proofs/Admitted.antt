@@ -11,7 +11,7 @@ use Rattle.contents.specs.Calendar.{date_of}
 use Rattle.contents.specs.Digits.{digit_pairs, are_pairs}
 use Rattle.contents.specs.Status.{status_in}
 use Rattle.contents.specs.Contents.{text, class_of, date, digits, status, importance, truth, version, code_page, importance_in, truth_in, code_page_in, is_rendering, is_version, means, admits}
-use Rattle.contents.proofs.Pairs.{some_also}
+use Rattle.contents.specs.PairScans.{some_also}
 use Rattle.contents.proofs.Parts.{some_where}
 
 module _ (xs : List ℕ) (place size : ℕ) where

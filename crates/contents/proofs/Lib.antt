@@ -3,7 +3,6 @@ pub mod ClassTexts
 pub mod Normal
 pub mod Days
 pub mod LittleEndian
-pub mod Pairs
 pub mod Parts
 pub mod Spellings
 pub mod Worked

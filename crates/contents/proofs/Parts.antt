@@ -1,5 +1,8 @@
 -- Readings that did not fail, and parts of a fixed size.
-use Rattle.std.proofs.Common.{◌≡◌, ℕ, ◌+◌, ◌*◌, ◌<◌, ◌≤◌, Bool, true, false, ◌&&◌, ◌||◌, eqb, leb, List, length, get_or, take, drop, is_some, Some, None, Ok, Err, Option, sym, refl, ap, ◌∙◌, add-zero, arith, rules}
+use Rattle.std.proofs.Common.{◌≡◌, ℕ, ◌+◌, ◌*◌, ◌<◌, ◌≤◌, Bool, true, false, ◌&&◌, ◌||◌, eqb, leb, List, [], ◌∷◌, ◌++◌, length, get_or, take, drop, is_some, Some, None, Ok, Err, Option, sym, refl, ap, ◌∙◌, add-zero, arith, rules}
+use lib.Pointwise.{pointwise}
+use Rattle.std.specs.Option.{option_eq}
+use borrow.Rule.Slice.PartMut.{post_of}
 use Rattle.std.proofs.lemmas.List.{get_or-take, get_or-drop, take-take}
 use Rattle.std.proofs.lemmas.Slice.Eq.{compares_Decides}
 use Rattle.std.proofs.lemmas.Bool.{eqb-true, eq-eqb, ne_eqb}
@@ -63,6 +66,33 @@ exact_fetched xs bytes place size m n l s e b =
     let all = exactly_all n (part xs place size) (length_part xs place size l ∙ s) in
     ap (λ ys. Ok (Some ys)) same ∙ ap Ok (sym all) ∙ sym (asked_within (exactly n) xs place size l)
 
+-- Fewer bytes than four, and zeros behind them, as a number.
+abbrev zeros : List ℕ
+zeros = 0 ∷ (0 ∷ (0 ∷ (0 ∷ [])))
+
+padded_val : (bs : List ℕ) → length bs ≤ 4
+    → get_or (bs ++ post_of 0 (length bs) zeros) 0 0 + get_or (bs ++ post_of 0 (length bs) zeros) 1 0 * 256 + get_or (bs ++ post_of 0 (length bs) zeros) 2 0 * 65536
+    + get_or (bs ++ post_of 0 (length bs) zeros) 3 0 * 16777216 ≡ val bs
+unfolding val
+padded_val [] h = omega arith
+padded_val (a ∷ []) h = omega arith
+padded_val (a ∷ (b ∷ [])) h = omega arith
+padded_val (a ∷ (b ∷ (c ∷ []))) h = omega arith
+padded_val (a ∷ (b ∷ (c ∷ (d ∷ [])))) h = omega arith
+padded_val (a ∷ (b ∷ (c ∷ (d ∷ (e ∷ bs))))) h = absurd (omega arith)
+
+pub number_fetched : (xs bytes : List ℕ) (place size m width k : ℕ) → place + size ≤ length xs → size ≡ width → m ≡ width → width ≤ 4 → bytes ≡ take m (drop place xs)
+    → k ≡ get_or (bytes ++ post_of 0 width zeros) 0 0 + get_or (bytes ++ post_of 0 width zeros) 1 0 * 256 + get_or (bytes ++ post_of 0 width zeros) 2 0 * 65536
+    + get_or (bytes ++ post_of 0 width zeros) 3 0 * 16777216
+    → Ok (Some k) ≡ asked (number width) xs place size
+unfolding part
+number_fetched xs bytes place size m width k l s e h b n =
+    let same : bytes ≡ part xs place size = b ∙ ap (λ k. take k (drop place xs)) (e ∙ sym s) in
+    let long : length bytes ≡ width = ap length same ∙ length_part xs place size l ∙ s in
+    let v : k ≡ val (part xs place size) = n ∙ (rw long at (padded_val bytes (omega (arith, long)))) ∙ ap val same in
+    let all = exactly_all width (part xs place size) (length_part xs place size l ∙ s) in
+    ap (λ m. Ok (Some m)) v ∙ ap (λ o. Ok (also o val)) (sym all) ∙ sym (asked_within (number width) xs place size l)
+
 get_d_part : (xs : List ℕ) (p n i : ℕ) → i < n → get_or (part xs p n) i 0 ≡ get_or xs (p + i) 0
 unfolding part
 get_d_part xs p n i h = rw (get_or-take, get_or-drop)
@@ -119,6 +149,24 @@ fetched_lost f xs place size m r l s e = ap Err e ∙ sym (asked_past f xs place
 -- Bytes of another number than the version's.
 pub same_length : (xs ys : List ℕ) → same_bytes xs ys ≡ true → length xs ≡ length ys
 same_length xs ys e = ap length ((compares_Decides same_bytes (search rules) xs ys).0 e)
+
+pointwise_is : (xs ys : List ℕ) → pointwise eqb xs ys ≡ same_bytes xs ys
+pointwise_is [] [] = refl
+pointwise_is [] (y ∷ ys) = refl
+pointwise_is (x ∷ xs) [] = refl
+pointwise_is (x ∷ xs) (y ∷ ys) = ap (λ b. eqb x y && b) (pointwise_is xs ys)
+
+pub version_read : (ys : List ℕ) → option_eq (pointwise eqb) (exactly 4 ys) (Some version_data) ≡ is_version ys
+unfolding exactly
+version_read ys = go (eqb (length ys) 4) refl
+  where
+    go : (b : Bool) → eqb (length ys) 4 ≡ b → option_eq (pointwise eqb) (where_true b ys) (Some version_data) ≡ is_version ys
+    go true e = pointwise_is ys version_data
+    go false e = sym (by_test (is_version ys) refl)
+      where
+        by_test : (b : Bool) → is_version ys ≡ b → b ≡ false
+        by_test true t = absurd (let z : ◌≡◌ {A = Bool} false true = sym e ∙ rw (same_length ys version_data t) in let o : ◌≡◌ {A = ℕ} 0 1 = cc in omega arith)
+        by_test false t = refl
 
 pub other_version : (xs : List ℕ) (place size : ℕ) → place + size ≤ length xs → (size ≡ 4 → ⊥) → Ok false ≡ asked is_version xs place size
 other_version xs place size l other =

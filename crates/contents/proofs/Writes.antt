@@ -1,10 +1,12 @@
 -- What writers of normal data owe.
-use Rattle.std.proofs.Common.{◌≡◌, ℕ, ◌+◌, ◌-◌, ◌≤◌, true, false, ◌&&◌, eqb, leb, ◌⊎◌, List, [], ◌∷◌, ◌++◌, map, length, is_some, Some, None, Ok, Err, Option, sym, refl, ap, ◌∙◌, inl, inr, arith, rules}
+use Rattle.std.proofs.Common.{◌≡◌, ℕ, ◌+◌, ◌-◌, ◌≤◌, Bool, true, false, ◌&&◌, eqb, leb, ◌⊎◌, List, [], ◌∷◌, ◌++◌, map, length, is_some, Some, None, Ok, Err, Option, sym, refl, ap, ◌∙◌, inl, inr, arith, rules}
 use Rattle.std.proofs.lemmas.Slice.Eq.{compares_Decides}
 use Rattle.std.proofs.lemmas.Bool.{and_parts, both_ways, eqb-true, leb-true}
+use mir.Val.{bool_byte}
 use Rattle.source.specs.Bytes.{Octets, part, val, le, same_bytes}
 use Rattle.source.specs.Outcome.{Outcome}
-use Rattle.pen.specs.Pen.{Penned}
+use Rattle.pen.specs.Pen.{Wrote}
+use Rattle.pen.specs.declared.Pen.{Pen}
 use Rattle.scan.specs.Scans.{asked}
 use Rattle.scan.specs.Texts.{also, before_zero}
 use Rattle.scan.proofs.Parts.{asked_got, asked_within}
@@ -14,12 +16,13 @@ use Rattle.contents.specs.Options.{then, exactly, number}
 use Rattle.contents.specs.Classes.{pair_number, pair_of}
 use Rattle.contents.specs.Digits.{digit, digit_pairs, capital}
 use Rattle.contents.specs.Contents.{Contents, text, class, digits, importance, ranked, importance_in, right_rendering, rendering_in, checked_rendering, version_data, is_version, means, normal, normal_of, normal_data, admits}
+use Rattle.contents.specs.Status.{flag}
 use Rattle.contents.specs.Writing.{Written, known, upper}
 use Rattle.contents.proofs.Admitted.{admits_text, admits_version, admits_recipients}
 use Rattle.contents.proofs.ClassTexts.{text_before}
 use Rattle.contents.proofs.LittleEndian.{octets_part, le_val, le_part, part_join, part_all}
 use Rattle.contents.proofs.Normal.{admitted}
-use Rattle.contents.proofs.Pairs.{some_also}
+use Rattle.contents.specs.PairScans.{some_also}
 use Rattle.contents.proofs.Parts.{where_some, also_some, then_some, exactly_some}
 
 -- Data that a rule admits are there.
@@ -41,14 +44,14 @@ text_normal t = refl
 
 -- A rule under which data mean what f reads, in a case of its own.
 module _ {A : Type 0} (ρ : Rule) (f : List ℕ → Option A) (wrap : A → Contents) (xs : List ℕ) (place size : ℕ) (meant : (ys : List ℕ) → means ρ ys ≡ also (f ys) wrap) where
-  pub written_some : (a : A) → Some a ≡ known (asked f xs place size) → {b : List ℕ} {o : Option ℕ} {after : List ℕ} {r : Option ℕ} → Penned b o (normal (wrap a)) after r
-      → Written ρ xs place size b o after r
+  pub written_some : (a : A) → Some a ≡ known (asked f xs place size) → {before after : Pen} → Wrote before (normal (wrap a)) after
+      → Written ρ xs place size before after
   written_some a e p ok =
       let read = (asked_got f xs place size (Some a) (sym (known_ok (asked f xs place size) a e))).1 in
       let same : means ρ (part xs place size) ≡ Some (wrap a) = meant (part xs place size) ∙ ap (λ o. also o wrap) (sym read) in
       rw (ap normal_of same) p
 
-  pub written_none : None ≡ known (asked f xs place size) → {b : List ℕ} {o : Option ℕ} {after : List ℕ} {r : Option ℕ} → Written ρ xs place size b o after r
+  pub written_none : None ≡ known (asked f xs place size) → {before after : Pen} → Written ρ xs place size before after
   unfolding admits
   written_none e ok =
       let l = admitted_within ρ xs place size ok in
@@ -62,8 +65,8 @@ class_part : (xs : List ℕ) (place size : ℕ) → asked (admits rule.Class) xs
     → (t : List ℕ) × (before_zero (part xs place size) ≡ Some t) × (part xs place size ≡ t ++ 0 ∷ [])
 class_part xs place size ok = text_before (part xs place size) (admits_text rule.Class (inr refl) (part xs place size) ∙ admitted_part rule.Class xs place size ok)
 
-pub class_some : (xs : List ℕ) (place size k : ℕ) → Some k ≡ known (asked pair_of xs place size) → {b : List ℕ} {o : Option ℕ} {after : List ℕ} {r : Option ℕ} → Penned b o (normal (class k)) after r
-    → Written rule.Class xs place size b o after r
+pub class_some : (xs : List ℕ) (place size k : ℕ) → Some k ≡ known (asked pair_of xs place size) → {before after : Pen} → Wrote before (normal (class k)) after
+    → Written rule.Class xs place size before after
 unfolding means
 class_some xs place size k e p ok =
     let read = (asked_got pair_of xs place size (Some k) (sym (known_ok (asked pair_of xs place size) k e))).1 in
@@ -71,8 +74,8 @@ class_some xs place size k e p ok =
     let same : means rule.Class (part xs place size) ≡ Some (class k) = rw (is, en) in
     rw (ap normal_of same) p
 
-pub class_none : (xs : List ℕ) (place size : ℕ) → None ≡ known (asked pair_of xs place size) → {b : List ℕ} {o : Option ℕ} {after : List ℕ} {r : Option ℕ}
-    → (place + size ≤ length xs → Penned b o (part xs place size) after r) → Written rule.Class xs place size b o after r
+pub class_none : (xs : List ℕ) (place size : ℕ) → None ≡ known (asked pair_of xs place size) → {before after : Pen}
+    → (place + size ≤ length xs → Wrote before (part xs place size) after) → Written rule.Class xs place size before after
 unfolding means
 class_none xs place size e p ok =
     let l = admitted_within rule.Class xs place size ok in
@@ -135,7 +138,7 @@ own_normal ρ (inr (inr (inr (inl e)))) ys o a = rw e (own_rendering ys o (rw e 
 own_normal ρ (inr (inr (inr (inr e)))) ys o a = rw e (own_version ys (rw e at a))
 
 pub written_own : (ρ : Rule) (xs : List ℕ) (place size : ℕ) → (ρ ≡ rule.Text) ⊎ ((ρ ≡ rule.Priority) ⊎ ((ρ ≡ rule.Raw) ⊎ ((ρ ≡ rule.Rendering) ⊎ (ρ ≡ rule.Version)))) → Octets xs
-    → {b : List ℕ} {o : Option ℕ} {after : List ℕ} {r : Option ℕ} → (place + size ≤ length xs → Penned b o (part xs place size) after r) → Written ρ xs place size b o after r
+    → {before after : Pen} → (place + size ≤ length xs → Wrote before (part xs place size) after) → Written ρ xs place size before after
 written_own ρ xs place size is o p ok =
     rw (own_normal ρ is (part xs place size) (octets_part xs place size o) (admitted_part ρ xs place size ok)) (p (admitted_within ρ xs place size ok))
 
@@ -162,13 +165,17 @@ digits_normal ys e =
     rw (is, ← same) (upper_pairs ys ns en)
 
 pub written_digits : (ρ : Rule) (xs : List ℕ) (place size : ℕ) → ρ ≡ rule.Digits
-    → {b : List ℕ} {o : Option ℕ} {after : List ℕ} {r : Option ℕ} → (place + size ≤ length xs → Penned b o (map upper (part xs place size)) after r) → Written ρ xs place size b o after r
+    → {before after : Pen} → (place + size ≤ length xs → Wrote before (map upper (part xs place size)) after) → Written ρ xs place size before after
 written_digits ρ xs place size is p ok =
     let a = rw is at (admitted_part ρ xs place size ok) in
     rw (is, ← digits_normal (part xs place size) a) (p (admitted_within ρ xs place size ok))
 
 -- Rules of property lists admit no data of their own.
 pub written_never : (ρ : Rule) (xs : List ℕ) (place size : ℕ) → (ρ ≡ rule.Recipients) ⊎ (ρ ≡ rule.Properties)
-    → {b : List ℕ} {o : Option ℕ} {after : List ℕ} {r : Option ℕ} → Written ρ xs place size b o after r
+    → {before after : Pen} → Written ρ xs place size before after
 written_never ρ xs place size is ok =
     absurd (both_ways (admits ρ (part xs place size)) (sym (admits_recipients ρ is (part xs place size))) (admitted_part ρ xs place size ok))
+
+pub flag_byte : (b : Bool) → bool_byte b ≡ flag b 1
+flag_byte true = refl
+flag_byte false = refl

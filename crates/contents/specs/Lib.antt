@@ -9,3 +9,4 @@ pub mod Spelling
 pub mod Status
 pub mod Steps
 pub mod Writing
+pub mod PairScans

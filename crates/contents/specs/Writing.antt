@@ -3,14 +3,15 @@ use Rattle.std.specs.Prelude.{◌≡◌, ℕ, ◌-◌, true, cond, ◌&&◌, Lis
 use Rattle.source.specs.Bytes.{part}
 use Rattle.source.specs.Outcome.{Outcome}
 use Rattle.scan.specs.Scans.{asked}
-use Rattle.pen.specs.Pen.{Penned}
+use Rattle.pen.specs.Pen.{Wrote}
+use Rattle.pen.specs.declared.Pen.{Pen}
 use Rattle.attribute.specs.declared.Rule.{Rule}
 use Rattle.contents.specs.Contents.{admits, normal_data}
 
 -- What writes the normal data of the `size` bytes of xs from `place` on: where the rule admits them, it writes exactly those.
-abbrev pub Written : Rule → List ℕ → (place size : ℕ) → List ℕ → Option ℕ → List ℕ → Option ℕ → Type 0
-Written ρ xs place size before here after r =
-    asked (admits ρ) xs place size ≡ Ok true → Penned before here (normal_data ρ (part xs place size)) after r
+abbrev pub Written : Rule → List ℕ → (place size : ℕ) → Pen → Pen → Type 0
+Written ρ xs place size before after =
+    asked (admits ρ) xs place size ≡ Ok true → Wrote before (normal_data ρ (part xs place size)) after
 
 -- What was read, if anything was.
 abbrev pub known : {A : Type 0} → Outcome (Option A) → Option A

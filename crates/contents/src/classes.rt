@@ -51,19 +51,12 @@ const PAIRS: [Pair; 8] = [
     },
 ];
 
-// Whether two slices hold the same bytes.
-pub(crate) fn same(a: &[u8], b: &[u8]) -> bool
-    ensures { result ≡ same_bytes a.now b.now }
-{
-    a == b
-}
-
 // Whether a text is the front, then the back.
 fn is_joined(text: &[u8], front: &[u8], back: &[u8]) -> bool
     ensures { result ≡ same_bytes text.now (front.now ++ back.now) }
 {
     match text.strip_prefix(front) {
-        Some(rest) => same(rest, back),
+        Some(rest) => rest == back,
         None => false,
     }
 }
@@ -72,8 +65,8 @@ fn is_joined(text: &[u8], front: &[u8], back: &[u8]) -> bool
 fn spells(text: &[u8], pair: &Pair) -> bool
     ensures { result ≡ means_pair text.now (spelled pair.now) }
 {
-    same(text, pair.attribute)
-        || same(text, pair.property)
+    text == pair.attribute
+        || text == pair.property
         || is_joined(text, b"Microsoft Mail v3.0", pair.attribute)
 }
 
@@ -116,22 +109,6 @@ pub fn class_text(k: usize) -> &'static [u8]
 // The most bytes of a text that means a pair, with its zero byte.
 const LONGEST: usize = 51;
 
-// The pair that a part of a text means, before its zero byte.
-fn class_in<S: Source>(
-    source: &mut S,
-    place: usize,
-    size: usize,
-    mut buffer: [u8; LONGEST],
-) -> Result<Option<usize>, Refusal>
-    requires { size ≤ 51 }
-    ensures same { S.Source.content source.new ≡ S.Source.content source.old }
-    ensures value { result ≡ asked pair_number (meaning (S.Source.content source.old)) place size }
-{
-    let text = &mut buffer[0..size];
-    source.fetch(place, text)?;
-    Ok(class_of(text))
-}
-
 // The pair that data mean, 1 to 8, if they mean one.
 pub fn class_at<S: Source>(
     source: &mut S,
@@ -148,5 +125,8 @@ pub fn class_at<S: Source>(
     if size > LONGEST {
         return Ok(None);
     }
-    class_in(source, place, size - 1, [0u8; LONGEST])
+    let mut buffer = [0u8; LONGEST];
+    let text = &mut buffer[0..size - 1];
+    source.fetch(place, text)?;
+    Ok(class_of(text))
 }

@@ -5,7 +5,7 @@ ghost use Rattle.scan.specs.Scans.{asked};
 ghost use Rattle.contents.specs.Calendar.{leap, month_length, is_date, days_before, weekday, word, date_in, checked, date_of};
 ghost use Rattle.contents.specs.Options.{then};
 
-use crate::fixed::fourteen;
+use crate::fixed::exactly;
 use source::{Refusal, Source};
 
 #[derive(Clone, Copy, PartialEq, Eq, Debug)]
@@ -84,20 +84,16 @@ fn word_of(bytes: &[u8; 14], k: usize) -> u16
 fn right_date(bytes: Option<[u8; 14]>) -> Option<Date>
     ensures { result ≡ then bytes (λ ys. checked (date_in ys)) }
 {
-    match bytes {
-        Some(bytes) => {
-            let date = Date {
-                year: word_of(&bytes, 0),
-                month: word_of(&bytes, 1),
-                day: word_of(&bytes, 2),
-                hour: word_of(&bytes, 3),
-                minute: word_of(&bytes, 4),
-                second: word_of(&bytes, 5),
-            };
-            if date.is_right() { Some(date) } else { None }
-        }
-        None => None,
-    }
+    let bytes = bytes?;
+    let date = Date {
+        year: word_of(&bytes, 0),
+        month: word_of(&bytes, 1),
+        day: word_of(&bytes, 2),
+        hour: word_of(&bytes, 3),
+        minute: word_of(&bytes, 4),
+        second: word_of(&bytes, 5),
+    };
+    if date.is_right() { Some(date) } else { None }
 }
 
 // The date that data mean, if they mean one.
@@ -109,6 +105,6 @@ pub fn date_at<S: Source>(
     ensures same { S.Source.content source.new ≡ S.Source.content source.old }
     ensures value { result ≡ asked date_of (meaning (S.Source.content source.old)) place size }
 {
-    let bytes = fourteen(source, place, size)?;
+    let bytes = exactly(source, place, size)?;
     Ok(right_date(bytes))
 }

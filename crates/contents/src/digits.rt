@@ -4,17 +4,16 @@ ghost use Rattle.source.specs.Content.{meaning};
 ghost use Rattle.scan.specs.Scans.{asked};
 ghost use Rattle.contents.specs.Digits.{digit, are_pairs};
 ghost use Rattle.contents.specs.Steps.{pair_step, pairs_closed};
+ghost use Rattle.contents.specs.declared.digits.Pairs.TheVariants as pairs;
+ghost use Rattle.contents.specs.PairScans.{pairs_all};
 
-use scan::{Automaton, scan};
+use scan::{Automaton, Recognizer, recognize};
 use source::{Refusal, Source};
 
 fn is_digit(byte: u8) -> bool
     ensures { result ≡ is_some (digit byte) }
 {
-    match byte {
-        b'0'..=b'9' | b'A'..=b'F' | b'a'..=b'f' => true,
-        _ => false,
-    }
+    byte.is_ascii_hexdigit()
 }
 
 // How far pairs of digits have come: between two pairs, within one, right behind the closing zero byte.
@@ -24,17 +23,6 @@ enum Pairs {
     Odd,
     Closed,
     Broken,
-}
-
-impl Pairs {
-    fn closed(self) -> bool
-        ensures { result ≡ pairs_closed self }
-    {
-        match self {
-            Pairs::Closed => true,
-            _ => false,
-        }
-    }
 }
 
 impl Automaton for Pairs {
@@ -50,11 +38,28 @@ impl Automaton for Pairs {
     }
 }
 
+impl Recognizer for Pairs {
+    ghost start = { pairs.Even };
+
+    ghost closed = { pairs_closed };
+
+    ghost accepts = { are_pairs };
+
+    ghost right = { pairs_all };
+
+    fn start() -> Pairs {
+        Pairs::Even
+    }
+
+    fn closed(self) -> bool {
+        matches!(self, Pairs::Closed)
+    }
+}
+
 // Whether data are pairs of hexadecimal digits, then a zero byte.
 pub fn are_digits<S: Source>(source: &mut S, place: usize, size: usize) -> Result<bool, Refusal>
     ensures same { S.Source.content source.new ≡ S.Source.content source.old }
     ensures value { result ≡ asked are_pairs (meaning (S.Source.content source.old)) place size }
 {
-    let pairs = scan(source, place, size, Pairs::Even)?;
-    Ok(pairs.closed())
+    recognize::<Pairs, S>(source, place, size)
 }

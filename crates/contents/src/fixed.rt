@@ -1,11 +1,10 @@
 // Parts of a source that have a fixed size.
-ghost use Rattle.std.specs.Prelude.{◌≡◌, is_some};
+ghost use Rattle.std.specs.Prelude.{◌≡◌, ◌≤◌, is_some};
 ghost use Rattle.source.specs.Content.{meaning};
 ghost use Rattle.source.specs.Outcome.{over};
 ghost use Rattle.scan.specs.Scans.{asked};
 ghost use Rattle.contents.specs.Options.{exactly, number};
 
-use scan::{u16_at, u32_at};
 use source::{Reason, Refusal, Source};
 
 // Refuses a part that goes past the end.
@@ -39,60 +38,43 @@ pub(crate) fn of_any<S: Source>(
 pub(crate) fn present<T: Drop>(read: Result<Option<T>, Refusal>) -> Result<bool, Refusal>
     ensures { result ≡ over is_some read }
 {
-    match read {
-        Ok(value) => Ok(value.is_some()),
-        Err(refusal) => Err(refusal),
-    }
+    Ok(read?.is_some())
 }
 
-// The bytes of a part, where there are fourteen.
-pub(crate) fn fourteen<S: Source>(
+// The bytes of a part, where there are N.
+pub(crate) fn exactly<S: Source, const N: usize>(
     source: &mut S,
     place: usize,
     size: usize,
-) -> Result<Option<[u8; 14]>, Refusal>
+) -> Result<Option<[u8; N]>, Refusal>
     ensures same { S.Source.content source.new ≡ S.Source.content source.old }
-    ensures value { result ≡ asked (exactly 14) (meaning (S.Source.content source.old)) place size }
+    ensures value { result ≡ asked (exactly N) (meaning (S.Source.content source.old)) place size }
 {
     reach(source, place, size)?;
-    if size != 14 {
+    if size != N {
         return Ok(None);
     }
-    let mut bytes = [0u8; 14];
+    let mut bytes = [0u8; N];
     source.fetch(place, &mut bytes)?;
     Ok(Some(bytes))
 }
 
-// The number that a part of two bytes means.
-pub(crate) fn number16<S: Source>(
+// The number that a part of `width` bytes means.
+pub(crate) fn number<S: Source>(
     source: &mut S,
-    place: usize,
-    size: usize,
-) -> Result<Option<u16>, Refusal>
-    ensures same { S.Source.content source.new ≡ S.Source.content source.old }
-    ensures value { result ≡ asked (number 2) (meaning (S.Source.content source.old)) place size }
-{
-    reach(source, place, size)?;
-    if size != 2 {
-        return Ok(None);
-    }
-    let number = u16_at(source, place)?;
-    Ok(Some(number))
-}
-
-// The number that a part of four bytes means.
-pub(crate) fn number32<S: Source>(
-    source: &mut S,
+    width: usize,
     place: usize,
     size: usize,
 ) -> Result<Option<u32>, Refusal>
+    requires { width ≤ 4 }
     ensures same { S.Source.content source.new ≡ S.Source.content source.old }
-    ensures value { result ≡ asked (number 4) (meaning (S.Source.content source.old)) place size }
+    ensures value { result ≡ asked (number width) (meaning (S.Source.content source.old)) place size }
 {
     reach(source, place, size)?;
-    if size != 4 {
+    if size != width {
         return Ok(None);
     }
-    let number = u32_at(source, place)?;
-    Ok(Some(number))
+    let mut four = [0u8; 4];
+    source.fetch(place, &mut four[0..width])?;
+    Ok(Some(u32::from_le_bytes(four)))
 }

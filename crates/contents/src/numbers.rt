@@ -6,15 +6,17 @@ ghost use Rattle.scan.specs.Texts.{also};
 ghost use Rattle.contents.specs.Contents.{ranked, nonzero, importance_in, truth_in, code_page_in};
 ghost use Rattle.contents.specs.Options.{then};
 
-use crate::fixed::{number16, reach};
-use scan::u32_at;
+use crate::fixed::{number, reach};
+use scan::Number;
 use source::{Refusal, Source};
 
-fn rank(number: Option<u16>) -> Option<u16>
+fn rank(number: Option<u32>) -> Option<u16>
     ensures { result ≡ then number ranked }
 {
-    match number {
-        Some(n) if 1 <= n && n <= 3 => Some(3 - n),
+    match number? {
+        1 => Some(2),
+        2 => Some(1),
+        3 => Some(0),
         _ => None,
     }
 }
@@ -28,17 +30,14 @@ pub fn importance_at<S: Source>(
     ensures same { S.Source.content source.new ≡ S.Source.content source.old }
     ensures value { result ≡ asked importance_in (meaning (S.Source.content source.old)) place size }
 {
-    let number = number16(source, place, size)?;
+    let number = number(source, 2, place, size)?;
     Ok(rank(number))
 }
 
-fn is_nonzero(number: Option<u16>) -> Option<bool>
+fn is_nonzero(number: Option<u32>) -> Option<bool>
     ensures { result ≡ also number nonzero }
 {
-    match number {
-        Some(n) => Some(n != 0),
-        None => None,
-    }
+    Some(number? != 0)
 }
 
 // Whether data mean yes, if they mean yes or no.
@@ -50,7 +49,7 @@ pub fn truth_at<S: Source>(
     ensures same { S.Source.content source.new ≡ S.Source.content source.old }
     ensures value { result ≡ asked truth_in (meaning (S.Source.content source.old)) place size }
 {
-    let number = number16(source, place, size)?;
+    let number = number(source, 2, place, size)?;
     Ok(is_nonzero(number))
 }
 
@@ -67,6 +66,6 @@ pub fn code_page_at<S: Source>(
     if size != 8 {
         return Ok(None);
     }
-    let number = u32_at(source, place)?;
+    let number = u32::at(source, place)?;
     Ok(Some(number))
 }

@@ -5,8 +5,7 @@ ghost use Rattle.scan.specs.Scans.{asked};
 ghost use Rattle.contents.specs.Contents.{right_rendering, checked_rendering, is_rendering, is_version};
 ghost use Rattle.contents.specs.Options.{then};
 
-use crate::classes::same;
-use crate::fixed::{fourteen, reach};
+use crate::fixed::exactly;
 use source::{Refusal, Source};
 
 fn are_right(kind: u16, flags: u32) -> bool
@@ -41,7 +40,7 @@ pub(crate) fn is_rendering<S: Source>(
     ensures same { S.Source.content source.new ≡ S.Source.content source.old }
     ensures value { result ≡ asked is_rendering (meaning (S.Source.content source.old)) place size }
 {
-    let bytes = fourteen(source, place, size)?;
+    let bytes = exactly(source, place, size)?;
     Ok(is_right(bytes))
 }
 
@@ -54,11 +53,6 @@ pub(crate) fn is_version<S: Source>(
     ensures same { S.Source.content source.new ≡ S.Source.content source.old }
     ensures value { result ≡ asked is_version (meaning (S.Source.content source.old)) place size }
 {
-    reach(source, place, size)?;
-    if size != 4 {
-        return Ok(false);
-    }
-    let mut bytes = [0u8; 4];
-    source.fetch(place, &mut bytes)?;
-    Ok(same(&bytes, &[0, 0, 1, 0]))
+    let bytes = exactly(source, place, size)?;
+    Ok(bytes == Some([0, 0, 1, 0]))
 }

@@ -5,7 +5,7 @@ ghost use Rattle.scan.specs.Scans.{asked};
 ghost use Rattle.scan.specs.Texts.{also};
 ghost use Rattle.contents.specs.Status.{flag, flags, status_bits, status_of, status_in};
 
-use crate::fixed::number32;
+use crate::fixed::number;
 use source::{Refusal, Source};
 
 #[derive(Clone, Copy, PartialEq, Eq, Debug)]
@@ -18,7 +18,7 @@ pub struct Status {
 }
 
 // The value of a flag that is set; 0 for another.
-pub(crate) fn flag_if(set: bool, value: u8) -> u8
+fn flag_if(set: bool, value: u8) -> u8
     ensures { result ≡ flag set value }
 {
     if set { value } else { 0 }
@@ -52,16 +52,14 @@ impl Status {
 fn status_in(bits: Option<u32>) -> Option<Status>
     ensures { result ≡ also bits status_of }
 {
-    match bits {
-        Some(bits) => Some(Status {
-            read: bits & 0x20 != 0,
-            modified: bits & 0x01 != 0,
-            submitted: bits & 0x04 != 0,
-            unsent: bits & 0x02 != 0,
-            attached: bits & 0x80 != 0,
-        }),
-        None => None,
-    }
+    let bits = bits?;
+    Some(Status {
+        read: bits & 0x20 != 0,
+        modified: bits & 0x01 != 0,
+        submitted: bits & 0x04 != 0,
+        unsent: bits & 0x02 != 0,
+        attached: bits & 0x80 != 0,
+    })
 }
 
 // The status that data mean, if they mean one.
@@ -73,6 +71,6 @@ pub fn status_at<S: Source>(
     ensures same { S.Source.content source.new ≡ S.Source.content source.old }
     ensures value { result ≡ asked status_in (meaning (S.Source.content source.old)) place size }
 {
-    let bits = number32(source, place, size)?;
+    let bits = number(source, 4, place, size)?;
     Ok(status_in(bits))
 }

@@ -3,160 +3,80 @@ ghost use Rattle.std.specs.Prelude.{◌≡◌, ◌+◌, ◌≤◌, map, length};
 ghost use Rattle.source.specs.Bytes.{part, Octets};
 ghost use Rattle.source.specs.Content.{meaning};
 ghost use Rattle.attribute.specs.declared.Rule.TheVariants as rules;
-ghost use Rattle.pen.specs.Pen.{Penned};
+ghost use Rattle.pen.specs.Pen.{Wrote};
 ghost use Rattle.contents.specs.Contents.{normal, date, class, status, truth, code_page};
 ghost use Rattle.contents.specs.Writing.{Written, known, upper};
 
 use crate::classes::class_text;
-use crate::statuses::flag_if;
 use crate::{Date, Status, class_at, code_page_at, date_at, status_at, truth_at};
 use attribute::Rule;
-use pen::{pen, pen_from, pen_le16, pen_le32};
+use pen::Pen;
 use source::{Refusal, Source};
 
 // What was read, if anything was.
 fn if_known<T: Drop>(read: Result<Option<T>, Refusal>) -> Option<T>
     ensures { result ≡ known read }
 {
-    match read {
-        Ok(value) => value,
-        Err(_) => None,
-    }
+    read.ok()?
 }
 
-fn pen_date(out: &mut [u8], here: Option<usize>, day: Date) -> Option<usize>
-    ensures { Penned out.old here (normal (date day)) out.new result }
+fn pen_date(pen: &mut Pen<'_>, day: Date)
+    ensures { Wrote pen.old (normal (date day)) pen.new }
 {
-    let a = pen_le16(out, here, day.year);
-    let b = pen_le16(out, a, day.month);
-    let c = pen_le16(out, b, day.day);
-    let d = pen_le16(out, c, day.hour);
-    let e = pen_le16(out, d, day.minute);
-    let f = pen_le16(out, e, day.second);
-    pen_le16(out, f, day.weekday())
+    pen.put_le(day.year);
+    pen.put_le(day.month);
+    pen.put_le(day.day);
+    pen.put_le(day.hour);
+    pen.put_le(day.minute);
+    pen.put_le(day.second);
+    pen.put_le(day.weekday());
 }
 
-fn pen_status(out: &mut [u8], here: Option<usize>, state: Status) -> Option<usize>
-    ensures { Penned out.old here (normal (status state)) out.new result }
+fn pen_status(pen: &mut Pen<'_>, state: Status)
+    ensures { Wrote pen.old (normal (status state)) pen.new }
 {
-    pen_le32(out, here, u32::from(state.bits()))
+    pen.put_le(u32::from(state.bits()));
 }
 
-fn pen_truth(out: &mut [u8], here: Option<usize>, answer: bool) -> Option<usize>
-    ensures { Penned out.old here (normal (truth answer)) out.new result }
+fn pen_truth(pen: &mut Pen<'_>, answer: bool)
+    ensures { Wrote pen.old (normal (truth answer)) pen.new }
 {
-    pen_le16(out, here, u16::from(flag_if(answer, 1)))
+    pen.put_le(u16::from(answer));
 }
 
-fn pen_code_page(out: &mut [u8], here: Option<usize>, primary: u32) -> Option<usize>
-    ensures { Penned out.old here (normal (code_page primary)) out.new result }
+fn pen_code_page(pen: &mut Pen<'_>, primary: u32)
+    ensures { Wrote pen.old (normal (code_page primary)) pen.new }
 {
-    let a = pen_le32(out, here, primary);
-    pen_le32(out, a, 0)
+    pen.put_le(primary);
+    pen.put_le(0u32);
 }
 
-fn pen_class(out: &mut [u8], here: Option<usize>, k: usize) -> Option<usize>
-    ensures { Penned out.old here (normal (class k)) out.new result }
+fn pen_class(pen: &mut Pen<'_>, k: usize)
+    ensures { Wrote pen.old (normal (class k)) pen.new }
 {
-    let a = pen(out, here, class_text(k));
-    pen(out, a, &[0])
-}
-
-fn write_date<S: Source>(
-    source: &mut S,
-    place: usize,
-    size: usize,
-    out: &mut [u8],
-    here: Option<usize>,
-) -> Option<usize>
-    ensures same { S.Source.content source.new ≡ S.Source.content source.old }
-    ensures value { Written rules.Date (meaning (S.Source.content source.old)) place size out.old here out.new result }
-{
-    match if_known(date_at(source, place, size)) {
-        Some(day) => pen_date(out, here, day),
-        None => None,
-    }
-}
-
-fn write_status<S: Source>(
-    source: &mut S,
-    place: usize,
-    size: usize,
-    out: &mut [u8],
-    here: Option<usize>,
-) -> Option<usize>
-    ensures same { S.Source.content source.new ≡ S.Source.content source.old }
-    ensures value { Written rules.Status (meaning (S.Source.content source.old)) place size out.old here out.new result }
-{
-    match if_known(status_at(source, place, size)) {
-        Some(state) => pen_status(out, here, state),
-        None => None,
-    }
-}
-
-fn write_truth<S: Source>(
-    source: &mut S,
-    place: usize,
-    size: usize,
-    out: &mut [u8],
-    here: Option<usize>,
-) -> Option<usize>
-    ensures same { S.Source.content source.new ≡ S.Source.content source.old }
-    ensures value { Written rules.YesNo (meaning (S.Source.content source.old)) place size out.old here out.new result }
-{
-    match if_known(truth_at(source, place, size)) {
-        Some(answer) => pen_truth(out, here, answer),
-        None => None,
-    }
-}
-
-fn write_code_page<S: Source>(
-    source: &mut S,
-    place: usize,
-    size: usize,
-    out: &mut [u8],
-    here: Option<usize>,
-) -> Option<usize>
-    ensures same { S.Source.content source.new ≡ S.Source.content source.old }
-    ensures value { Written rules.CodePage (meaning (S.Source.content source.old)) place size out.old here out.new result }
-{
-    match if_known(code_page_at(source, place, size)) {
-        Some(primary) => pen_code_page(out, here, primary),
-        None => None,
-    }
+    pen.put(class_text(k));
+    pen.put(&[0]);
 }
 
 // Writes data that are their own normal data; a source's length says besides that it means bytes.
-fn write_same<S: Source>(
-    source: &mut S,
-    place: usize,
-    size: usize,
-    out: &mut [u8],
-    here: Option<usize>,
-) -> Option<usize>
+fn write_same<S: Source>(source: &mut S, place: usize, size: usize, pen: &mut Pen<'_>)
     ensures same { S.Source.content source.new ≡ S.Source.content source.old }
     ensures octets { Octets (meaning (S.Source.content source.old)) }
     ensures value { place + size ≤ length (meaning (S.Source.content source.old))
-        → Penned out.old here (part (meaning (S.Source.content source.old)) place size) out.new result }
+        → Wrote pen.old (part (meaning (S.Source.content source.old)) place size) pen.new }
 {
     let _total = source.len();
-    pen_from(source, place, size, out, here)
+    pen.put_from(source, place, size);
 }
 
 // Writes the pair's attribute value for any of its spellings, and another text as it is.
-fn write_class<S: Source>(
-    source: &mut S,
-    place: usize,
-    size: usize,
-    out: &mut [u8],
-    here: Option<usize>,
-) -> Option<usize>
+fn write_class<S: Source>(source: &mut S, place: usize, size: usize, pen: &mut Pen<'_>)
     ensures same { S.Source.content source.new ≡ S.Source.content source.old }
-    ensures value { Written rules.Class (meaning (S.Source.content source.old)) place size out.old here out.new result }
+    ensures value { Written rules.Class (meaning (S.Source.content source.old)) place size pen.old pen.new }
 {
     match if_known(class_at(source, place, size)) {
-        Some(k) => pen_class(out, here, k),
-        None => pen_from(source, place, size, out, here),
+        Some(k) => pen_class(pen, k),
+        None => pen.put_from(source, place, size),
     }
 }
 
@@ -178,32 +98,22 @@ fn capitalize(bytes: &mut [u8])
 }
 
 // Writes the digits of a part, where it is there, as capitals.
-fn pen_capitals<S: Source>(
-    source: &mut S,
-    place: usize,
-    size: usize,
-    out: &mut [u8],
-    here: Option<usize>,
-) -> Option<usize>
+fn pen_capitals<S: Source>(source: &mut S, place: usize, size: usize, pen: &mut Pen<'_>)
     ensures same { S.Source.content source.new ≡ S.Source.content source.old }
     ensures value { place + size ≤ length (meaning (S.Source.content source.old))
-        → Penned out.old here (map upper (part (meaning (S.Source.content source.old)) place size)) out.new result }
+        → Wrote pen.old (map upper (part (meaning (S.Source.content source.old)) place size)) pen.new }
 {
-    match here {
-        Some(start) => {
-            if start > out.len() || size > out.len() - start {
-                return None;
-            }
-            let digits = &mut out[start..start + size];
-            match source.fetch(place, digits) {
-                Ok(()) => {
-                    capitalize(digits);
-                    Some(start + size)
-                }
-                Err(_) => None,
-            }
+    let Some(start) = pen.room_for(size) else {
+        pen.here = None;
+        return;
+    };
+    let digits = &mut pen.out[start..start + size];
+    match source.fetch(place, digits) {
+        Ok(()) => {
+            capitalize(digits);
+            pen.here = Some(start + size);
         }
-        None => None,
+        Err(_) => pen.here = None,
     }
 }
 
@@ -213,22 +123,33 @@ pub fn write_normal<S: Source>(
     rule: Rule,
     place: usize,
     size: usize,
-    out: &mut [u8],
-    here: Option<usize>,
-) -> Option<usize>
+    pen: &mut Pen<'_>,
+)
     ensures same { S.Source.content source.new ≡ S.Source.content source.old }
-    ensures value { Written rule (meaning (S.Source.content source.old)) place size out.old here out.new result }
+    ensures value { Written rule (meaning (S.Source.content source.old)) place size pen.old pen.new }
 {
     match rule {
         Rule::Text | Rule::Priority | Rule::Raw | Rule::Rendering | Rule::Version => {
-            write_same(source, place, size, out, here)
+            write_same(source, place, size, pen)
         }
-        Rule::Class => write_class(source, place, size, out, here),
-        Rule::Date => write_date(source, place, size, out, here),
-        Rule::Digits => pen_capitals(source, place, size, out, here),
-        Rule::Status => write_status(source, place, size, out, here),
-        Rule::YesNo => write_truth(source, place, size, out, here),
-        Rule::CodePage => write_code_page(source, place, size, out, here),
-        Rule::Recipients | Rule::Properties => None,
+        Rule::Class => write_class(source, place, size, pen),
+        Rule::Date => match if_known(date_at(source, place, size)) {
+            Some(day) => pen_date(pen, day),
+            None => {}
+        },
+        Rule::Digits => pen_capitals(source, place, size, pen),
+        Rule::Status => match if_known(status_at(source, place, size)) {
+            Some(state) => pen_status(pen, state),
+            None => {}
+        },
+        Rule::YesNo => match if_known(truth_at(source, place, size)) {
+            Some(answer) => pen_truth(pen, answer),
+            None => {}
+        },
+        Rule::CodePage => match if_known(code_page_at(source, place, size)) {
+            Some(primary) => pen_code_page(pen, primary),
+            None => {}
+        },
+        Rule::Recipients | Rule::Properties => {}
     }
 }

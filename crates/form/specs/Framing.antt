@@ -1,7 +1,8 @@
 -- Frames around data that are written first.
 use Rattle.std.specs.Prelude.{◌≡◌, ℕ, ◌+◌, ◌-◌, ◌<◌, ◌≤◌, List, ◌++◌, length, take, drop, Some, None, Option}
 use Rattle.source.specs.Bytes.{part}
-use Rattle.pen.specs.Pen.{Penned, Told}
+use Rattle.pen.specs.Pen.{Told}
+use Rattle.pen.specs.declared.Pen.{Pen}
 use Rattle.stream.specs.Writing.{write_frame}
 
 -- A list with `bytes` in the place of those from `here` on.
@@ -12,15 +13,18 @@ placed before here bytes = take here before ++ (bytes ++ drop (here + length byt
 unfoldable pub framed : (level id : ℕ) → List ℕ → List ℕ
 framed level id xs = write_frame level id xs
 
--- Whatever writes `rest` from here on writes `whole` from where it began: what a loop keeps.
-abbrev pub Leads : List ℕ → Option ℕ → List ℕ → List ℕ → Option ℕ → List ℕ → Type 0
-Leads before start whole now here rest = (after : List ℕ) (r : Option ℕ) → Penned now here rest after r → Penned before start whole after r
-
 -- The place behind the nine bytes that a frame begins with, if they fit.
-abbrev pub Opened : List ℕ → Option ℕ → Option ℕ → Type 0
-Opened before None r = r ≡ None
-Opened before (Some start) None = length before < start + 9
-Opened before (Some start) (Some n) = (n ≡ start + 9) × (n ≤ length before)
+abbrev pub Begins : List ℕ → Option ℕ → Option ℕ → Type 0
+Begins before None r = r ≡ None
+Begins before (Some start) None = length before < start + 9
+Begins before (Some start) (Some n) = (n ≡ start + 9) × (n ≤ length before)
+
+-- A pen p that is moved on to where a frame's data are to stand, and where the frame begins.
+pub record Opened (p : Pen) (start : Option ℕ) (q : Pen) : Type 0 where
+  pub reference : q.out.ghost_name ≡ p.out.ghost_name
+  pub same : q.out.now ≡ p.out.now
+  pub from : start ≡ p.here
+  pub place : Begins p.out.now p.here q.here
 
 -- What a frame is closed around.
 abbrev pub Closable : List ℕ → Option ℕ → Option ℕ → Type 0
@@ -34,6 +38,8 @@ Sealed before (Some start) None level id after r = r ≡ None
 Sealed before (Some start) (Some end) level id after r =
     Told before (Some start) (framed level id (part before (start + 9) (end - (start + 9)))) after r
 
-pub record Closed (before : List ℕ) (start end : Option ℕ) (level id : ℕ) (after : List ℕ) (r : Option ℕ) : Type 0 where
-  pub kept : length after ≡ length before
-  pub told : Sealed before start end level id after r
+-- A pen p behind a frame's data, and what closing the frame makes of it.
+pub record Closed (p : Pen) (start : Option ℕ) (level id : ℕ) (q : Pen) : Type 0 where
+  pub reference : q.out.ghost_name ≡ p.out.ghost_name
+  pub kept : length q.out.now ≡ length p.out.now
+  pub told : Sealed p.out.now start p.here level id q.out.now q.here

@@ -1,10 +1,11 @@
 -- The whole of what is written, target by target.
-use Rattle.std.specs.Prelude.{◌≡◌, ℕ, ◌<◌, List, [], ◌∷◌, ◌++◌, map, Option}
+use Rattle.std.specs.Prelude.{◌≡◌, ℕ, ◌<◌, List, [], ◌∷◌, ◌++◌, map}
 use Rattle.std.specs.List.{flat_map}
 use Rattle.attribute.specs.Table.{rendering_id, version_id}
 use Rattle.frame.specs.Frames.{signature}
 use Rattle.frame.specs.declared.stages.Stage.{Stage}
-use Rattle.pen.specs.Pen.{Penned}
+use Rattle.pen.specs.Pen.{Wrote}
+use Rattle.pen.specs.declared.Pen.{Pen}
 use Rattle.stream.specs.Reading.{version, Entry}
 use Rattle.stream.specs.Messages.{holding_of, attachment_parts}
 use Rattle.stream.specs.Writing.{write_entry, attachment_entries}
@@ -27,8 +28,8 @@ unfoldable pub all_attached : List Entry → List ℕ
 all_attached es = flat_map write_entry (flat_map attachment_entries (map holding_of (attachment_parts es)))
 
 -- An attachment that begins at p was written, and the next begins at q.
-pub record Next (xs : List ℕ) (p : ℕ) (s : Stage) (before : List ℕ) (here : Option ℕ) (q : ℕ) (t : Stage) (after : List ℕ) (r : Option ℕ) : Type 0 where
-  pub penned : Penned before here (attached (own_part (remaining xs p s))) after r
+pub record Next (xs : List ℕ) (p : ℕ) (s : Stage) (before : Pen) (q : ℕ) (t : Stage) (after : Pen) : Type 0 where
+  pub penned : Wrote before (attached (own_part (remaining xs p s))) after
   pub rest : remaining xs q t ≡ past_part (remaining xs p s)
   pub good : Readable xs q t
   pub onward : p < q

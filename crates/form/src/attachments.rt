@@ -3,18 +3,20 @@ ghost use Rattle.std.specs.Prelude.{◌≡◌, ◌^◌, ◌<◌, ◌≤◌, leng
 ghost use Rattle.std.specs.List.{AllByRecursion};
 ghost use Rattle.source.specs.Content.{meaning};
 ghost use Rattle.attribute.specs.Table.{attachment_attributes};
-ghost use Rattle.pen.specs.Pen.{Penned};
+ghost use Rattle.pen.specs.Pen.{Wrote};
 ghost use Rattle.property.specs.Lists.{list_limit};
 ghost use Rattle.form.specs.Targets.{Standing, Readable, remaining};
 ghost use Rattle.form.specs.Holdings.{attachment_bytes};
 ghost use Rattle.form.specs.Wholes.{Rendered, Next, all_attached};
 
+use crate::Rows;
 use crate::attributes::{write_attribute, write_attributes};
 use crate::lists::write_properties;
-use crate::targets::{NO_ROW, ROW_COUNT, gather};
+use crate::targets::gather;
 use attribute::{ATT_ATTACHMENT_PROPERTIES, ATT_RENDERING, Attribute, Rule, all_attributes};
-use frame::Stage;
-use index::{AttributeRow, PropertyRow};
+use frame::Cursor;
+use index::PropertyRow;
+use pen::Pen;
 use source::Source;
 
 pub const RENDERING: Attribute = Attribute {
@@ -34,14 +36,6 @@ const ATTACHMENT_START: usize = 18;
 
 const ATTACHMENT_END: usize = 24;
 
-// Where the next attachment begins in the stream, and where it is written.
-#[derive(Clone, Copy)]
-pub struct Progress {
-    pub place: usize,
-    pub stage: Stage,
-    pub here: Option<usize>,
-}
-
 pub fn attachment_table() -> &'static [Attribute]
     ensures { result.now ≡ attachment_attributes }
 {
@@ -51,77 +45,58 @@ pub fn attachment_table() -> &'static [Attribute]
 // An attachment's rendering, attributes and properties.
 pub fn write_attachment<S: Source>(
     source: &mut S,
-    rows: &[AttributeRow],
+    rows: &Rows,
     lent: &mut [PropertyRow],
-    out: &mut [u8],
-    here: Option<usize>,
-) -> Option<usize>
-    requires fits { length out.old < 2 ^ 32 }
+    pen: &mut Pen<'_>,
+)
+    requires fits { length pen.old.out.now < 2 ^ 32 }
     requires room { list_limit ≤ length lent.old }
     requires sound { AllByRecursion (Standing (meaning (S.Source.content source.old))) rows.now }
     ensures same { S.Source.content source.new ≡ S.Source.content source.old }
-    ensures value { Penned out.old here
-        (attachment_bytes (meaning (S.Source.content source.old)) rows.now) out.new result }
+    ensures value { Wrote pen.old
+        (attachment_bytes (meaning (S.Source.content source.old)) rows.now) pen.new }
 {
-    let rendering = write_attribute(source, rows, RENDERING, out, here);
-    let attributes = write_attributes(source, rows, attachment_table(), out, rendering);
-    write_properties(source, rows, ATTACHMENT_PROPERTIES, lent, out, attributes)
+    write_attribute(source, rows, RENDERING, pen);
+    write_attributes(source, rows, attachment_table(), pen);
+    write_properties(source, rows, ATTACHMENT_PROPERTIES, lent, pen);
 }
 
-// The attachment that begins at `place`.
+// The attachment that begins at a place; then the place is that of the next.
 pub fn write_next<S: Source>(
     source: &mut S,
-    place: usize,
-    stage: Stage,
-    mut rows: [AttributeRow; ROW_COUNT],
+    at: &mut Cursor,
     lent: &mut [PropertyRow],
-    out: &mut [u8],
-    here: Option<usize>,
-) -> Progress
-    requires fits { length out.old < 2 ^ 32 }
+    pen: &mut Pen<'_>,
+)
+    requires fits { length pen.old.out.now < 2 ^ 32 }
     requires room { list_limit ≤ length lent.old }
-    requires good { Readable (meaning (S.Source.content source.old)) place stage }
-    requires rendered { Rendered (remaining (meaning (S.Source.content source.old)) place stage) }
-    requires more { place < length (meaning (S.Source.content source.old)) }
+    requires good { Readable (meaning (S.Source.content source.old)) at.old.place at.old.stage }
+    requires rendered { Rendered (remaining (meaning (S.Source.content source.old)) at.old.place at.old.stage) }
+    requires more { at.old.place < length (meaning (S.Source.content source.old)) }
     ensures same { S.Source.content source.new ≡ S.Source.content source.old }
-    ensures value { Next (meaning (S.Source.content source.old)) place stage out.old here result.place result.stage out.new result.here }
+    ensures value { Next (meaning (S.Source.content source.old)) at.old.place at.old.stage pen.old at.new.place at.new.stage pen.new }
 {
-    let target = gather(source, place, stage, &mut rows);
-    let used = target.used;
-    let here = write_attachment(source, &rows[0..used], lent, out, here);
-    Progress {
-        place: target.place,
-        stage: target.stage,
-        here,
-    }
+    let rows = gather(source, at);
+    write_attachment(source, &rows, lent, pen);
 }
 
-// The attachments from `start` on.
+// The attachments from a place on.
 pub fn write_attachments<S: Source>(
     source: &mut S,
-    start: usize,
-    first: Stage,
+    start: Cursor,
     lent: &mut [PropertyRow],
-    out: &mut [u8],
-    begin: Option<usize>,
-) -> Option<usize>
-    requires fits { length out.old < 2 ^ 32 }
+    pen: &mut Pen<'_>,
+)
+    requires fits { length pen.old.out.now < 2 ^ 32 }
     requires room { list_limit ≤ length lent.old }
-    requires good { Readable (meaning (S.Source.content source.old)) start first }
-    requires rendered { Rendered (remaining (meaning (S.Source.content source.old)) start first) }
+    requires good { Readable (meaning (S.Source.content source.old)) start.place start.stage }
+    requires rendered { Rendered (remaining (meaning (S.Source.content source.old)) start.place start.stage) }
     ensures same { S.Source.content source.new ≡ S.Source.content source.old }
-    ensures value { Penned out.old begin
-        (all_attached (remaining (meaning (S.Source.content source.old)) start first)) out.new result }
+    ensures value { Wrote pen.old (all_attached (remaining (meaning (S.Source.content source.old)) start.place start.stage)) pen.new }
 {
     let total = source.len();
-    let mut place = start;
-    let mut stage = first;
-    let mut here = begin;
-    while place < total {
-        let next = write_next(source, place, stage, [NO_ROW; ROW_COUNT], lent, out, here);
-        place = next.place;
-        stage = next.stage;
-        here = next.here;
+    let mut at = start;
+    while at.place < total {
+        write_next(source, &mut at, lent, pen);
     }
-    here
 }

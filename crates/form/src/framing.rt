@@ -5,10 +5,8 @@ ghost use Rattle.scan.specs.Scans.{checksum};
 ghost use Rattle.pen.specs.Pen.{Told};
 ghost use Rattle.form.specs.Framing.{placed, framed, Opened, Closable, Closed};
 
-// Level, id and length stand before a frame's data, and its checksum behind them.
-const HEAD_SIZE: usize = 9;
-
-const CHECKSUM_SIZE: usize = 2;
+use frame::{CHECKSUM_SIZE, HEAD_SIZE};
+use pen::Pen;
 
 // Writes `bytes` over those from `here` on.
 fn put(out: &mut [u8], here: usize, bytes: &[u8])
@@ -22,11 +20,9 @@ fn put(out: &mut [u8], here: usize, bytes: &[u8])
 fn summed(bytes: &[u8]) -> u16
     ensures { result ≡ checksum bytes.now }
 {
-    let mut total: u16 = 0;
-    for byte in bytes {
-        total = total.wrapping_add(u16::from(*byte));
-    }
-    total
+    bytes
+        .iter()
+        .fold(0, |total: u16, byte| total.wrapping_add(u16::from(*byte)))
 }
 
 // What stands before a frame's data.
@@ -55,35 +51,27 @@ fn close(out: &mut [u8], start: usize, end: usize, level: u8, id: u32) -> Option
     Some(end + CHECKSUM_SIZE)
 }
 
-// The place for the data of a frame that begins here.
-pub fn pen_open(out: &[u8], here: Option<usize>) -> Option<usize>
-    ensures { Opened out.now here result }
+// Leaves the nine bytes that stand before a frame's data, and says where the frame begins.
+pub fn pen_open(pen: &mut Pen<'_>) -> Option<usize>
+    ensures { Opened pen.old result pen.new }
 {
-    match here {
-        Some(start) => {
-            if start > out.len() || out.len() - start < HEAD_SIZE {
-                return None;
-            }
-            Some(start + HEAD_SIZE)
-        }
-        None => None,
-    }
+    let start = pen.here?;
+    pen.here = if start > pen.out.len() || pen.out.len() - start < HEAD_SIZE {
+        None
+    } else {
+        Some(start + HEAD_SIZE)
+    };
+    Some(start)
 }
 
-// Closes the frame that begins at `start` and whose data end at `end`, if they do.
-pub fn pen_close(
-    out: &mut [u8],
-    start: Option<usize>,
-    end: Option<usize>,
-    level: u8,
-    id: u32,
-) -> Option<usize>
-    requires closable { Closable out.old start end }
-    requires out_len_bound { length out.old < 2 ^ 32 }
-    ensures { Closed out.old start end level id out.new result }
+// Closes the frame that begins at `start` around the data that were written, if they were.
+pub fn pen_close(pen: &mut Pen<'_>, start: Option<usize>, level: u8, id: u32)
+    requires closable { Closable pen.old.out.now start pen.old.here }
+    requires out_len_bound { length pen.old.out.now < 2 ^ 32 }
+    ensures { Closed pen.old start level id pen.new }
 {
-    match (start, end) {
-        (Some(s), Some(e)) => close(out, s, e, level, id),
+    pen.here = match (start, pen.here) {
+        (Some(start), Some(end)) => close(pen.out, start, end, level, id),
         _ => None,
-    }
+    };
 }

@@ -3,17 +3,16 @@ ghost use Rattle.std.specs.Prelude.{◌≡◌, ℕ, ◌^◌, ◌<◌, length, So
 ghost use Rattle.std.specs.List.{AllByRecursion};
 ghost use Rattle.source.specs.Content.{meaning};
 ghost use Rattle.attribute.specs.Table.{code_page_id};
-ghost use Rattle.pen.specs.Pen.{Penned};
+ghost use Rattle.pen.specs.Pen.{Wrote};
 ghost use Rattle.stream.specs.Messages.{as_primary};
 ghost use Rattle.form.specs.Targets.{Standing};
 ghost use Rattle.form.specs.Holdings.{told_in, page_bytes};
 ghost use Rattle.form.specs.Wholes.{front_bytes};
 
+use crate::Rows;
 use crate::attributes::write_row;
-use crate::targets::row_under;
 use attribute::{ATT_CODE_PAGE, Attribute, Rule};
-use index::AttributeRow;
-use pen::pen;
+use pen::Pen;
 use source::Source;
 
 // The header with the key 01 00, and the frame of the version.
@@ -28,27 +27,21 @@ pub const CODE_PAGE: Attribute = Attribute {
 };
 
 // The header and the version.
-pub fn write_front(out: &mut [u8], here: Option<usize>) -> Option<usize>
-    ensures { Penned out.old here front_bytes out.new result }
+pub fn write_front(out: &mut [u8], here: Option<usize>)
+    ensures { Wrote pen.old front_bytes pen.new }
 {
     pen(out, here, &FRONT)
 }
 
 // The frame of the code page, where there is one.
-pub fn write_page<S: Source>(
-    source: &mut S,
-    rows: &[AttributeRow],
-    out: &mut [u8],
-    here: Option<usize>,
-) -> Option<usize>
-    requires fits { length out.old < 2 ^ 32 }
+pub fn write_page<S: Source>(source: &mut S, rows: &Rows, pen: &mut Pen<'_>)
+    requires fits { length pen.old.out.now < 2 ^ 32 }
     requires sound { AllByRecursion (Standing (meaning (S.Source.content source.old))) rows.now }
     ensures same { S.Source.content source.new ≡ S.Source.content source.old }
     ensures value { (n : ℕ) → told_in as_primary code_page_id (meaning (S.Source.content source.old)) rows.now ≡ Some n
-        → Penned out.old here (page_bytes (meaning (S.Source.content source.old)) rows.now) out.new result }
+        → Wrote pen.old (page_bytes (meaning (S.Source.content source.old)) rows.now) pen.new }
 {
-    match row_under(rows, ATT_CODE_PAGE) {
-        Some(row) => write_row(source, CODE_PAGE, row, out, here),
-        None => here,
+    if let Some(row) = rows.under(ATT_CODE_PAGE) {
+        write_row(source, CODE_PAGE, row, pen);
     }
 }

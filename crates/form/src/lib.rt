@@ -6,6 +6,7 @@ ghost use Rattle.source.specs.Content.{meaning};
 ghost use Rattle.form.specs.Restating.{restated, Restates};
 
 use index::PropertyRow;
+use pen::Pen;
 use property::LIST_LIMIT;
 use source::{Reason, Refusal, SOURCE_LIMIT, Source};
 use stream::judge;
@@ -16,19 +17,21 @@ mod framing;
 mod fronts;
 mod lists;
 mod messages;
+mod row_list;
 mod targets;
 mod wholes;
 
 pub use attachments::{
-    ATTACHMENT_PROPERTIES, Progress, RENDERING, attachment_table, write_attachment,
-    write_attachments, write_next,
+    ATTACHMENT_PROPERTIES, RENDERING, attachment_table, write_attachment, write_attachments,
+    write_next,
 };
 pub use attributes::{write_attribute, write_attributes, write_row};
 pub use framing::{pen_close, pen_open};
 pub use fronts::{CODE_PAGE, write_front, write_page};
 pub use lists::{write_properties, write_recipients};
 pub use messages::{MESSAGE_PROPERTIES, message_table, write_message};
-pub use targets::{NO_ROW, ROW_COUNT, Target, gather, row_under};
+pub use row_list::Rows;
+pub use targets::gather;
 pub use wholes::write_form;
 
 // Writes the form of what a source carries, and says how long it is, or what refuses it: rows that are too few, the
@@ -50,11 +53,10 @@ pub fn restate<S: Source>(
     }
     judge(source)?;
     let size = out.len().min(SOURCE_LIMIT);
-    match write_form(source, [NO_ROW; ROW_COUNT], lent, &mut out[0..size]) {
-        Some(n) => Ok(n),
-        None => Err(Refusal {
-            reason: Reason::FormTooLong,
-            place: 0,
-        }),
-    }
+    let mut pen = Pen::new(&mut out[0..size]);
+    write_form(source, lent, &mut pen);
+    pen.here.ok_or(Refusal {
+        reason: Reason::FormTooLong,
+        place: 0,
+    })
 }

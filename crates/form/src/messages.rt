@@ -3,15 +3,17 @@ ghost use Rattle.std.specs.Prelude.{◌≡◌, ◌^◌, ◌<◌, ◌≤◌, leng
 ghost use Rattle.std.specs.List.{AllByRecursion};
 ghost use Rattle.source.specs.Content.{meaning};
 ghost use Rattle.attribute.specs.Table.{message_attributes};
-ghost use Rattle.pen.specs.Pen.{Penned};
+ghost use Rattle.pen.specs.Pen.{Wrote};
 ghost use Rattle.property.specs.Lists.{list_limit};
 ghost use Rattle.form.specs.Targets.{Standing};
 ghost use Rattle.form.specs.Holdings.{message_bytes};
 
+use crate::Rows;
 use crate::attributes::write_attributes;
 use crate::lists::{write_properties, write_recipients};
 use attribute::{ATT_MESSAGE_PROPERTIES, Attribute, Rule, all_attributes};
-use index::{AttributeRow, PropertyRow};
+use index::PropertyRow;
+use pen::Pen;
 use source::Source;
 
 pub const MESSAGE_PROPERTIES: Attribute = Attribute {
@@ -32,19 +34,18 @@ pub fn message_table() -> &'static [Attribute]
 // The message's attributes, recipients and properties.
 pub fn write_message<S: Source>(
     source: &mut S,
-    rows: &[AttributeRow],
+    rows: &Rows,
     lent: &mut [PropertyRow],
-    out: &mut [u8],
-    here: Option<usize>,
-) -> Option<usize>
-    requires fits { length out.old < 2 ^ 32 }
+    pen: &mut Pen<'_>,
+)
+    requires fits { length pen.old.out.now < 2 ^ 32 }
     requires room { list_limit ≤ length lent.old }
     requires sound { AllByRecursion (Standing (meaning (S.Source.content source.old))) rows.now }
     ensures same { S.Source.content source.new ≡ S.Source.content source.old }
-    ensures value { Penned out.old here
-        (message_bytes (meaning (S.Source.content source.old)) rows.now) out.new result }
+    ensures value { Wrote pen.old
+        (message_bytes (meaning (S.Source.content source.old)) rows.now) pen.new }
 {
-    let attributes = write_attributes(source, rows, message_table(), out, here);
-    let recipients = write_recipients(source, rows, lent, out, attributes);
-    write_properties(source, rows, MESSAGE_PROPERTIES, lent, out, recipients)
+    write_attributes(source, rows, message_table(), pen);
+    write_recipients(source, rows, lent, pen);
+    write_properties(source, rows, MESSAGE_PROPERTIES, lent, pen);
 }

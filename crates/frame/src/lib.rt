@@ -6,17 +6,20 @@ ghost use Rattle.source.specs.Content.{meaning, source_limit};
 ghost use Rattle.frame.specs.Frames.{header, head_at, head_judged, sum_judged, frame_at, next_frame, Onward};
 
 use attribute::{Attribute, Rule, attribute_of};
-use scan::{checksum, u16_at};
+use scan::{Number, checksum};
 use source::{Reason, Refusal, Source};
 
 mod stages;
 
-pub use stages::{ATTACHMENT_LIMIT, Stage};
+pub use stages::{ATTACHMENT_LIMIT, Cursor, Stage};
+
+// A stream begins with a signature and a key.
+pub const HEADER_SIZE: usize = 6;
 
 // Level, id and length stand before a frame's data, and its checksum behind them.
-const HEAD_SIZE: usize = 9;
+pub const HEAD_SIZE: usize = 9;
 
-const CHECKSUM_SIZE: usize = 2;
+pub const CHECKSUM_SIZE: usize = 2;
 
 // A frame that stands in a stream, as far as its checksum.
 #[derive(Clone, Copy)]
@@ -29,6 +32,18 @@ pub struct Frame {
     pub stage: Stage,
     // the place behind it
     pub next: usize,
+}
+
+impl Frame {
+    // Where the next frame is read.
+    pub fn behind(&self) -> Cursor
+        ensures { result ≡ record { place = self.now.next; stage = self.now.stage } }
+    {
+        Cursor {
+            place: self.next,
+            stage: self.stage,
+        }
+    }
 }
 
 // What stands before a frame's data.
@@ -51,7 +66,7 @@ pub fn header<S: Source>(source: &mut S) -> Result<u16, Refusal>
     ensures same { S.Source.content source.new ≡ S.Source.content source.old }
     ensures reads { result ≡ header (meaning (S.Source.content source.old)) }
 {
-    let mut bytes = [0u8; 6];
+    let mut bytes = [0u8; HEADER_SIZE];
     match source.fetch(0, &mut bytes) {
         Err(_) => Err(Refusal {
             reason: Reason::StreamEnd,
@@ -89,12 +104,11 @@ fn head_at<S: Source>(source: &mut S, place: usize) -> Result<Head, Refusal>
 fn head_judged(head: Head, place: usize, stage: Stage) -> Result<Judged, Refusal>
     ensures { result ≡ head_judged head place stage }
 {
-    let attribute = match attribute_of(head.id) {
-        Some(attribute) => attribute,
-        None => return Err(Refusal {
+    let Some(attribute) = attribute_of(head.id) else {
+        return Err(Refusal {
             reason: Reason::UnknownId,
             place,
-        }),
+        });
     };
     if head.level != attribute.level {
         return Err(Refusal {
@@ -130,28 +144,27 @@ fn sum_judged<S: Source>(
             place,
         });
     }
-    let stored = u16_at(source, place + HEAD_SIZE + size)?;
-    match rule {
-        Rule::Class => Ok(stored),
-        _ => {
-            let sum = checksum(source, place + HEAD_SIZE, size)?;
-            if stored != sum {
-                return Err(Refusal {
-                    reason: Reason::Checksum,
-                    place,
-                });
-            }
-            Ok(stored)
-        }
+    let stored = u16::at(source, place + HEAD_SIZE + size)?;
+    if let Rule::Class = rule {
+        return Ok(stored);
     }
+    let sum = checksum(source, place + HEAD_SIZE, size)?;
+    if stored != sum {
+        return Err(Refusal {
+            reason: Reason::Checksum,
+            place,
+        });
+    }
+    Ok(stored)
 }
 
-// The frame at `place`, read at a stage.
-pub fn frame_at<S: Source>(source: &mut S, place: usize, stage: Stage) -> Result<Frame, Refusal>
+// The frame at a place, read at a stage.
+pub fn frame_at<S: Source>(source: &mut S, at: Cursor) -> Result<Frame, Refusal>
     ensures same { S.Source.content source.new ≡ S.Source.content source.old }
-    ensures reads { result ≡ frame_at (meaning (S.Source.content source.old)) place stage }
-    ensures within { IfOk result (λ f. Onward place f) }
+    ensures reads { result ≡ frame_at (meaning (S.Source.content source.old)) at.place at.stage }
+    ensures within { IfOk result (λ f. Onward at.place f) }
 {
+    let Cursor { place, stage } = at;
     let head = head_at(source, place)?;
     let Judged { attribute, stage } = head_judged(head, place, stage)?;
     let size = head.size as usize;
@@ -167,21 +180,17 @@ pub fn frame_at<S: Source>(source: &mut S, place: usize, stage: Stage) -> Result
     })
 }
 
-// The frame at `place`, or none where the stream ends there and may.
-pub fn next_frame<S: Source>(
-    source: &mut S,
-    place: usize,
-    stage: Stage,
-) -> Result<Option<Frame>, Refusal>
+// The frame at a place, or none where the stream ends there and may.
+pub fn next_frame<S: Source>(source: &mut S, at: Cursor) -> Result<Option<Frame>, Refusal>
     ensures same { S.Source.content source.new ≡ S.Source.content source.old }
-    ensures reads { result ≡ next_frame (meaning (S.Source.content source.old)) place stage }
-    ensures within { IfOk result (λ o. IfSome o (λ f. Onward place f)) }
+    ensures reads { result ≡ next_frame (meaning (S.Source.content source.old)) at.place at.stage }
+    ensures within { IfOk result (λ o. IfSome o (λ f. Onward at.place f)) }
 {
     let total = source.len();
-    let complete = stage.may_end();
-    if complete && place == total {
+    let complete = at.stage.may_end();
+    if complete && at.place == total {
         return Ok(None);
     }
-    let frame = frame_at(source, place, stage)?;
+    let frame = frame_at(source, at)?;
     Ok(Some(frame))
 }

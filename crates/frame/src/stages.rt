@@ -50,9 +50,21 @@ impl Stage {
     pub fn may_end(&self) -> bool
         ensures { result ≡ may_end self.now }
     {
-        match self {
-            Stage::Version | Stage::CodePage => false,
-            Stage::Message | Stage::Attachment(_) => true,
-        }
+        matches!(self, Stage::Message | Stage::Attachment(_))
     }
+}
+
+// Where a frame is read, and at which stage.
+#[derive(Clone, Copy)]
+pub struct Cursor {
+    pub place: usize,
+    pub stage: Stage,
+}
+
+impl Cursor {
+    // At the first frame, behind the header.
+    pub const FIRST: Cursor = Cursor {
+        place: 6,
+        stage: Stage::Version,
+    };
 }

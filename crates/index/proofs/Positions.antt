@@ -1,5 +1,6 @@
 -- The first row with a key, and what adding a row does to a slice.
 use Rattle.std.proofs.Common.{◌≡◌, ℕ, suc, ◌+◌, ◌<◌, ◌≤◌, min, Bool, true, false, cond, not, ◌||◌, ltb, List, [], ◌∷◌, length, get_or, take, drop, set, Some, None, sym, refl, ap, ◌∙◌, inl, inr, ⊎_elim, one-add, arith, rules}
+use Rattle.std.specs.List.{position as first_place}
 use Rattle.std.proofs.lemmas.List.{places, same_lists, take_more_set, drop-set-lt, length-set, length-take-le, get_or-set_same, take_all}
 use Rattle.std.proofs.lemmas.List.Sums.{prefix_len-drop_yes, prefix_len-drop_no, prefix_len-drop_all}
 use Rattle.std.proofs.lemmas.Bool.{cases_Bool, cases_eq, cases_lt, lt-ltb, le-ltb, both_ways}
@@ -16,24 +17,9 @@ module _ {R : Type 0} (same : R → R → Bool) where
   has_before [] r = refl
   has_before (x ∷ xs) r = has_step (same x r) (has same xs r) (before same xs r) (length xs) (has_before xs r)
 
-  -- The steps of a search: here it is, it is not here, and it is nowhere.
-  module _ (rows : List R) (r : R) (i : ℕ) where
-    pub position_here : (x : R) → i < length rows → x ≡ get_or rows i x → true ≡ same x r
-        → before same rows r ≡ i + before same (drop i rows) r → Some i ≡ position same rows r
-    position_here x h e t l =
-        let z = prefix_len-drop_no (λ y. not (same y r)) rows i x h (ap (λ y. not (same y r)) (sym e) ∙ ap not (sym t)) in
-        let n : before same rows r ≡ i = omega arith in
-        rw (← has_before rows r, n, lt-ltb i (length rows) h)
-
-    pub position_on : (x : R) → i < length rows → x ≡ get_or rows i x → false ≡ same x r
-        → before same rows r ≡ i + before same (drop i rows) r → before same rows r ≡ (i + 1) + before same (drop (i + 1) rows) r
-    position_on x h e t l =
-        let z = prefix_len-drop_yes (λ y. not (same y r)) rows i x h (ap (λ y. not (same y r)) (sym e) ∙ ap not (sym t)) in omega arith
-
-    pub position_none : length rows ≤ i → before same rows r ≡ i + before same (drop i rows) r → None ≡ position same rows r
-    position_none h l =
-        let z = prefix_len-drop_all (λ y. not (same y r)) rows i h in
-        rw (← has_before rows r, le-ltb (before same rows r) (length rows) (omega arith))
+  -- The library's search for the first that passes a test.
+  pub position_is : (rows : List R) (r : R) → first_place (λ x. same x r) rows ≡ position same rows r
+  position_is rows r = rw (has_before rows r) refl
 
   pub position_some : (rows : List R) (r : R) (i : ℕ) → Some i ≡ position same rows r → (has same rows r ≡ true) × (i ≡ before same rows r)
   position_some rows r i e =

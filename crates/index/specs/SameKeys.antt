@@ -1,6 +1,7 @@
 -- `same_key` decides the equality of keys.
 use Rattle.std.specs.Prelude.{◌≡◌, ℕ, Bool, true, false, List, Decides, refl}
 use Rattle.std.proofs.Common.{ap}
+use Rattle.std.specs.Cmp.{IsEquivalence, decided}
 use Rattle.std.specs.Str.{bytes_eq}
 use Rattle.std.proofs.lemmas.Slice.Eq.{bytes_eq-Decides}
 use Rattle.std.proofs.lemmas.Bool.{eqb-true, eq-eqb, and_parts, and_from, both_ways}
@@ -32,3 +33,9 @@ same_key_from k l e = rw e (key_itself l)
 
 pub decides_key : (r : Bool) (k l : Key) → r ≡ same_key k l → Decides r (k ≡ l)
 decides_key r k l e = rw e (same_key_true k l, same_key_from k l)
+
+-- Things with one key are alike.
+pub alike_by_key : {A : Type 0} (key : A → Key) → IsEquivalence (λ x y. same_key (key x) (key y))
+alike_by_key key =
+    let d : IsEquivalence same_key = decided same_key (λ k l. (same_key_true k l, same_key_from k l)) in
+    record { refl = λ x. d.refl (key x); symm = λ x y. d.symm (key x) (key y); congr = λ x y z. d.congr (key x) (key y) (key z) }

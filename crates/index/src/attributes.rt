@@ -1,7 +1,7 @@
 // Rows of attributes, by id.
 ghost use Rattle.std.specs.Prelude.{false, ◌==◌};
-ghost use Rattle.std.proofs.Common.{refl, sym, ◌∙◌};
-ghost use Rattle.std.proofs.lemmas.Bool.{eq-eqb, eqb-true};
+ghost use Rattle.std.proofs.Common.{rules};
+ghost use Rattle.std.specs.Cmp.Rules.{comparing};
 
 use crate::Row;
 
@@ -18,11 +18,7 @@ impl Row for AttributeRow {
 
     ghost later = { false };
 
-    ghost itself = { λ x. eq-eqb x.id x.id refl };
-
-    ghost turned = { λ x y e. eq-eqb y.id x.id (sym (eqb-true x.id y.id e)) };
-
-    ghost through = { λ x y z e f. eq-eqb x.id z.id (eqb-true x.id y.id e ∙ eqb-true y.id z.id f) };
+    ghost laws = { Prim.search (comparing, rules) };
 
     fn same_key(&self, other: &Self) -> bool {
         self.id == other.id

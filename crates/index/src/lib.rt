@@ -1,7 +1,9 @@
 // Rows in a lent slice, found by equality of their keys and kept as their keys first come.
 #![tactic(auto)]
 
-ghost use Rattle.std.specs.Prelude.{◌≡◌, Bool, true};
+ghost use Rattle.std.specs.Prelude.{◌≡◌, Bool};
+ghost use Rattle.std.specs.Cmp.{IsEquivalence};
+ghost use Rattle.std.specs.List.{position as first_that};
 ghost use Rattle.index.specs.Laws.{Lawful};
 ghost use Rattle.index.specs.Rows.{position, Added};
 
@@ -28,23 +30,21 @@ pub trait Row: Copy {
     fn takes_later() -> bool
         ensures { result ≡ later };
 
-    ghost itself: { (x : Self) → same x x ≡ true };
+    ghost laws: { IsEquivalence same };
+}
 
-    ghost turned: { (x y : Self) → same x y ≡ true → same y x ≡ true };
-
-    ghost through: { (x y z : Self) → same x y ≡ true → same y z ≡ true → same x z ≡ true };
+// The search in the library's words; `find` says it in those of rows.
+fn first_place<R: Row>(rows: &[R], probe: &R) -> Option<usize>
+    ensures { result ≡ first_that (λ x. R.Row.same x probe.now) rows.now }
+{
+    rows.iter().position(|row| row.same_key(probe))
 }
 
 // Where the first row with the key of `probe` stands.
 pub fn find<R: Row>(rows: &[R], probe: &R) -> Option<usize>
     ensures { result ≡ position R.Row.same rows.now probe.now }
 {
-    for (i, row) in rows.iter().enumerate() {
-        if row.same_key(probe) {
-            return Some(i);
-        }
-    }
-    None
+    first_place(rows, probe)
 }
 
 // Adds `row` to the first `used` rows, and says how many there are then, or nothing where its key is new and there is no room.

@@ -1,8 +1,7 @@
 // Rows of properties, by key.
 ghost use Rattle.std.specs.Prelude.{false};
 ghost use Rattle.index.specs.Keys.{key_of, same_key};
-ghost use Rattle.index.specs.SameKeys.{key_itself, same_key_true, same_key_from};
-ghost use Rattle.std.proofs.Common.{sym, ◌∙◌};
+ghost use Rattle.index.specs.SameKeys.{alike_by_key};
 
 use crate::{PropertyKey, Row};
 
@@ -21,14 +20,10 @@ impl Row for PropertyRow {
 
     ghost later = { false };
 
-    ghost itself = { λ x. key_itself (key_of x.key) };
-
-    ghost turned = { λ x y e. same_key_from (key_of y.key) (key_of x.key) (sym (same_key_true (key_of x.key) (key_of y.key) e)) };
-
-    ghost through = { λ x y z e f. same_key_from (key_of x.key) (key_of z.key) (same_key_true (key_of x.key) (key_of y.key) e ∙ same_key_true (key_of y.key) (key_of z.key) f) };
+    ghost laws = { alike_by_key (λ x. key_of x.key) };
 
     fn same_key(&self, other: &Self) -> bool {
-        self.key.same(&other.key)
+        self.key == other.key
     }
 
     fn takes_later() -> bool {

@@ -1,5 +1,5 @@
 -- Lists and tables that were read, as they are written.
-use Rattle.std.proofs.Common.{◌≡◌, ℕ, suc, ◌+◌, ◌≤◌, min, false, eqb, leb, List, [], ◌∷◌, ◌++◌, map, length, take, Ok, Err, fold, Option, sym, refl, ap, ◌∙◌, inl, inr, arith}
+use Rattle.std.proofs.Common.{◌≡◌, ℕ, suc, ◌+◌, ◌≤◌, min, false, eqb, leb, List, [], ◌∷◌, ◌++◌, map, length, take, Ok, Err, Some, None, fold, sym, refl, ap, ◌∙◌, inl, inr, arith}
 use Rattle.std.specs.List.{flat_map}
 use Rattle.std.proofs.lemmas.List.{length_push, length-map}
 use Rattle.std.proofs.lemmas.Bool.{cases_Bool, eqb-true, leb-true}
@@ -10,7 +10,8 @@ use Rattle.source.specs.declared.refusals.Refusal.{Refusal}
 use Rattle.source.proofs.Outcomes.{err_not_ok, ok_same, need_got, bind_got, then_got}
 use Rattle.index.specs.Rows.{has, added}
 use Rattle.index.specs.declared.properties.PropertyRow.{PropertyRow}
-use Rattle.pen.specs.Pen.{Penned, Leads}
+use Rattle.pen.specs.declared.Pen.{Pen}
+use Rattle.pen.specs.Pen.{Leads}
 use Rattle.pen.proofs.Pens.{leads_on, leads_end}
 use Rattle.property.specs.declared.indexing.Listed.{Listed}
 use Rattle.property.specs.Fields.{At, at, repeated, number_at, whole, data_end}
@@ -20,8 +21,7 @@ use Rattle.property.specs.Names.{first_named}
 use Rattle.property.specs.Writing.{write_list, write_table}
 use Rattle.property.proofs.Carrying.{listed_room}
 use Rattle.listform.specs.Forms.{number_there, rows_form, RowsFit}
-use Rattle.listform.specs.declared.lists.Passed.{Passed}
-use Rattle.listform.specs.Written.{form, OneWritten}
+use Rattle.listform.specs.Written.{form, OneWritten, AllWritten}
 use Rattle.listform.proofs.RowForms.{rows_in}
 use Rattle.listform.proofs.ValueForms.{number_in}
 use Rattle.listform.proofs.WalkSteps.{repeated_length, repeated_first, repeated_nothing}
@@ -123,23 +123,31 @@ module _ (xs : List ℕ) (end place room : ℕ) (l : end ≤ length xs) (m : lis
   list_refused after q e a f = err_not_ok (sym e ∙ (listed_is ∙ f))
 
 -- Of `count` lists from `place` on, n are left from p on: whoever writes those has written all.
-abbrev pub Left : List ℕ → (end count place : ℕ) → List ℕ → Option ℕ → (n p : ℕ) → List ℕ → Option ℕ → Type 0
-Left xs end count place before start n p out here =
+abbrev pub Left : List ℕ → (end count place : ℕ) → Pen → (n p : ℕ) → Pen → Type 0
+Left xs end count place before n p pen =
     (a : At (List (List Property))) → repeated (list_at xs end) count place ≡ Ok a
-    → (b : At (List (List Property))) × (repeated (list_at xs end) n p ≡ Ok b) × Leads before start (flat_map form a.what) out here (flat_map form b.what)
+    → (b : At (List (List Property))) × (repeated (list_at xs end) n p ≡ Ok b) × Leads before (flat_map form a.what) pen (flat_map form b.what)
 
-module _ (xs : List ℕ) (end count place : ℕ) (before : List ℕ) (start : Option ℕ) where
-  pub left_more : (n m p : ℕ) (out out' : List ℕ) (here : Option ℕ) (r : Passed) → n ≡ suc m → Left xs end count place before start n p out here
-      → OneWritten xs p end out here out' r → Left xs end count place before start m r.next out' r.here
-  left_more n m p out out' here r e left one a f =
+module _ (xs : List ℕ) (end count place : ℕ) (before : Pen) where
+  pub left_more : (n m p : ℕ) (pen pen' : Pen) (q : ℕ) → n ≡ suc m → Left xs end count place before n p pen
+      → OneWritten xs p end pen pen' (Some q) → Left xs end count place before m q pen'
+  left_more n m p pen pen' q e left one a f =
       let (b, g, leads) = left a f in
-      let (h, rest, k, t, is) = repeated_first (list_at xs end) n m p b e (sym g) in
-      let (next, penned) = one h (sym k) in
-      (rest, rw next (sym t), leads_on leads (ap (λ (b : At (List (List Property))). flat_map form b.what) is) penned)
+      let (h, rest, k, t, same) = repeated_first (list_at xs end) n m p b e (sym g) in
+      let (next, wrote) = one h (sym k) in
+      let on : q ≡ h.next = cc in
+      (rest, rw on (sym t), leads_on leads (ap (λ (b : At (List (List Property))). flat_map form b.what) same) wrote)
 
-  pub left_none : (n p : ℕ) (out : List ℕ) (here : Option ℕ) → n ≡ 0 → Left xs end count place before start n p out here
-      → (a : At (List (List Property))) → repeated (list_at xs end) count place ≡ Ok a → Penned before start (flat_map form a.what) out here
-  left_none n p out here e left a f =
+  -- Where no list is left to read, there were not so many.
+  pub left_lost : (n m p : ℕ) (pen pen' : Pen) → n ≡ suc m → Left xs end count place before n p pen → OneWritten xs p end pen pen' None
+      → AllWritten xs count place end before pen'
+  left_lost n m p pen pen' e left one a f =
+      let (b, g, _) = left a f in
+      let (h, _, k, _, _) = repeated_first (list_at xs end) n m p b e (sym g) in
+      let q = (one h (sym k)).0 in let z : ◌≡◌ {A = ℕ} 0 1 = cc in absurd (omega arith)
+
+  pub left_none : (n p : ℕ) (pen : Pen) → n ≡ 0 → Left xs end count place before n p pen → AllWritten xs count place end before pen
+  left_none n p pen e left a f =
       let (b, g, leads) = left a f in
       leads_end leads (ap (λ (b : At (List (List Property))). flat_map form b.what) (repeated_nothing (list_at xs end) n p b e (sym g)))
 

@@ -1,32 +1,32 @@
 // Writing keys, with names numbered as they come.
 ghost use Rattle.std.specs.Prelude.{◌≡◌, ◌<◌};
 ghost use Rattle.index.specs.Keys.{key_of};
-ghost use Rattle.pen.specs.Pen.{Penned};
+ghost use Rattle.pen.specs.Pen.{Wrote};
 ghost use Rattle.property.specs.Writing.{write_key, after_key};
 
 use crate::fields::pen_filled;
 use index::PropertyKey;
-use pen::{pen, pen_le16, pen_le32};
+use pen::Pen;
 
 // Writes a key: its id, or the number and what the name is.
-pub fn pen_key(out: &mut [u8], here: Option<usize>, key: &PropertyKey, number: u16) -> Option<usize>
-    ensures { Penned out.old here (write_key number (key_of key.now)) out.new result }
+pub fn pen_key(key: &PropertyKey, number: u16, pen: &mut Pen<'_>)
+    ensures { Wrote pen.old (write_key number (key_of key.now)) pen.new }
 {
     match key {
-        PropertyKey::Tag(id) => pen_le16(out, here, *id),
+        PropertyKey::Tag(id) => pen.put_le(*id),
         PropertyKey::Numbered(guid, n) => {
-            let a = pen_le16(out, here, number);
-            let b = pen(out, a, guid);
-            let c = pen_le32(out, b, 0);
-            pen_le32(out, c, *n)
+            pen.put_le(number);
+            pen.put(guid);
+            pen.put_le(0u32);
+            pen.put_le(*n);
         }
         PropertyKey::Named(guid, name) => {
             let text = name.text();
-            let a = pen_le16(out, here, number);
-            let b = pen(out, a, guid);
-            let c = pen_le32(out, b, 1);
-            let d = pen_le32(out, c, text.len() as u32);
-            pen_filled(out, d, text)
+            pen.put_le(number);
+            pen.put(guid);
+            pen.put_le(1u32);
+            pen.put_le(text.len() as u32);
+            pen_filled(text, pen);
         }
     }
 }

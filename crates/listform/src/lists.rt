@@ -7,43 +7,28 @@ ghost use Rattle.listform.specs.Written.{ListWritten, TableWritten, OneWritten, 
 use crate::fields::number_at;
 use crate::rows::write_rows;
 use index::PropertyRow;
-use pen::pen_le32;
+use pen::Pen;
 use property::{LIST_LIMIT, rows};
 use source::Source;
 
-// The place behind a list that was read, and the place behind what was written for it.
-#[derive(Clone, Copy)]
-struct Passed {
-    next: usize,
-    here: Option<usize>,
-}
-
-// Writes the list at `place`.
+// Writes the list at `place` and gives the place behind it, where there is one.
 fn write_list_at<S: Source>(
     source: &mut S,
     place: usize,
     end: usize,
     lent: &mut [PropertyRow],
-    out: &mut [u8],
-    here: Option<usize>,
-) -> Passed
+    pen: &mut Pen<'_>,
+) -> Option<usize>
     requires { (end ≤ length (meaning (S.Source.content source.old))) × ((length (meaning (S.Source.content source.old)) ≤ source_limit) × (list_limit ≤ length lent.old)) }
     ensures same { S.Source.content source.new ≡ S.Source.content source.old }
-    ensures value { OneWritten (meaning (S.Source.content source.old)) place end out.old here out.new result }
+    ensures value { OneWritten (meaning (S.Source.content source.old)) place end pen.old pen.new result }
 {
-    match rows(source, place, end, lent) {
-        Ok(listed) => {
-            let count = listed.count;
-            Passed {
-                next: listed.next,
-                here: write_rows(source, &lent[0..count], out, here),
-            }
-        }
-        Err(_) => Passed {
-            next: end,
-            here: None,
-        },
-    }
+    let Ok(listed) = rows(source, place, end, lent) else {
+        pen.here = None;
+        return None;
+    };
+    write_rows(source, &lent[0..listed.count], pen);
+    Some(listed.next)
 }
 
 // Writes the normal form of the list that the data from `base` to `end` are, where they are one.
@@ -52,17 +37,16 @@ pub fn write_list<S: Source>(
     base: usize,
     end: usize,
     lent: &mut [PropertyRow],
-    out: &mut [u8],
-    here: Option<usize>,
-) -> Option<usize>
+    pen: &mut Pen<'_>,
+)
     ensures same { S.Source.content source.new ≡ S.Source.content source.old }
-    ensures value { ListWritten (meaning (S.Source.content source.old)) base end (length lent.old) out.old here out.new result }
+    ensures value { ListWritten (meaning (S.Source.content source.old)) base end (length lent.old) pen.old pen.new }
 {
     if end > source.len() || lent.len() < LIST_LIMIT as usize {
-        return None;
+        pen.here = None;
+        return;
     }
-    let passed = write_list_at(source, base, end, lent, out, here);
-    passed.here
+    write_list_at(source, base, end, lent, pen);
 }
 
 // Writes `count` lists, each indexed in the same rows.
@@ -72,21 +56,19 @@ fn write_lists<S: Source>(
     place: usize,
     end: usize,
     lent: &mut [PropertyRow],
-    out: &mut [u8],
-    start: Option<usize>,
-) -> Option<usize>
+    pen: &mut Pen<'_>,
+)
     requires { (end ≤ length (meaning (S.Source.content source.old))) × ((length (meaning (S.Source.content source.old)) ≤ source_limit) × (list_limit ≤ length lent.old)) }
     ensures same { S.Source.content source.new ≡ S.Source.content source.old }
-    ensures value { AllWritten (meaning (S.Source.content source.old)) count place end out.old start out.new result }
+    ensures value { AllWritten (meaning (S.Source.content source.old)) count place end pen.old pen.new }
 {
     let mut read = place;
-    let mut here = start;
-    for i in 0..count {
-        let passed = write_list_at(source, read, end, lent, out, here);
-        read = passed.next;
-        here = passed.here;
+    for _ in 0..count {
+        let Some(next) = write_list_at(source, read, end, lent, pen) else {
+            return;
+        };
+        read = next;
     }
-    here
 }
 
 // Writes the normal form of the table that the data from `base` to `end` are, where they are one.
@@ -95,19 +77,16 @@ pub fn write_table<S: Source>(
     base: usize,
     end: usize,
     lent: &mut [PropertyRow],
-    out: &mut [u8],
-    here: Option<usize>,
-) -> Option<usize>
+    pen: &mut Pen<'_>,
+)
     ensures same { S.Source.content source.new ≡ S.Source.content source.old }
-    ensures value { TableWritten (meaning (S.Source.content source.old)) base end (length lent.old) out.old here out.new result }
+    ensures value { TableWritten (meaning (S.Source.content source.old)) base end (length lent.old) pen.old pen.new }
 {
-    if end > source.len() || lent.len() < LIST_LIMIT as usize {
-        return None;
-    }
-    if end < 4 || base > end - 4 {
-        return None;
+    if end > source.len() || lent.len() < LIST_LIMIT as usize || end < 4 || base > end - 4 {
+        pen.here = None;
+        return;
     }
     let count = number_at(source, base);
-    let a = pen_le32(out, here, count);
-    write_lists(source, count, base + 4, end, lent, out, a)
+    pen.put_le(count);
+    write_lists(source, count, base + 4, end, lent, pen);
 }

@@ -27,7 +27,7 @@ impl<'a> Pen<'a> {
     }
 
     // Where `size` bytes more begin, if they fit.
-    fn room_for(&self, size: usize) -> Option<usize>
+    pub fn room_for(&self, size: usize) -> Option<usize>
         ensures { RoomFor self.now size result }
     {
         let start = self.here?;

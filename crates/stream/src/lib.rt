@@ -9,14 +9,9 @@ ghost use Rattle.stream.specs.Reading.{meant_at, next_judged, entries_of};
 
 use attribute::Rule;
 use contents::admits;
-use frame::{Frame, Stage, header, next_frame};
+use frame::{Cursor, Frame, HEAD_SIZE, header, next_frame};
 use property::{property_list, recipient_table};
 use source::{Reason, Refusal, Source};
-
-// A frame's data begin behind its level, id and length.
-const HEAD_SIZE: usize = 9;
-
-const HEADER_SIZE: usize = 6;
 
 // Judges the data of a frame by its rule.
 fn judge_data<S: Source>(source: &mut S, frame: Frame) -> Result<(), Refusal>
@@ -42,23 +37,17 @@ fn judge_data<S: Source>(source: &mut S, frame: Frame) -> Result<(), Refusal>
     }
 }
 
-// The frame at `place` with its data judged, or none where the stream ends there and may.
-pub fn next_judged<S: Source>(
-    source: &mut S,
-    place: usize,
-    stage: Stage,
-) -> Result<Option<Frame>, Refusal>
+// The frame at a place with its data judged, or none where the stream ends there and may.
+pub fn next_judged<S: Source>(source: &mut S, at: Cursor) -> Result<Option<Frame>, Refusal>
     ensures same { S.Source.content source.new ≡ S.Source.content source.old }
-    ensures reads { result ≡ next_judged (meaning (S.Source.content source.old)) place stage }
-    ensures within { IfOk result (λ o. IfSome o (λ f. Onward place f)) }
+    ensures reads { result ≡ next_judged (meaning (S.Source.content source.old)) at.place at.stage }
+    ensures within { IfOk result (λ o. IfSome o (λ f. Onward at.place f)) }
 {
-    match next_frame(source, place, stage)? {
-        None => Ok(None),
-        Some(frame) => {
-            judge_data(source, frame)?;
-            Ok(Some(frame))
-        }
-    }
+    let Some(frame) = next_frame(source, at)? else {
+        return Ok(None);
+    };
+    judge_data(source, frame)?;
+    Ok(Some(frame))
 }
 
 // The first refusal of a stream, if it is not readable.
@@ -67,11 +56,9 @@ pub fn judge<S: Source>(source: &mut S) -> Result<(), Refusal>
     ensures reads { result ≡ over (λ _. tt) (entries_of (meaning (S.Source.content source.old))) }
 {
     header(source)?;
-    let mut place = HEADER_SIZE;
-    let mut stage = Stage::Version;
-    while let Some(frame) = next_judged(source, place, stage)? {
-        place = frame.next;
-        stage = frame.stage;
+    let mut at = Cursor::FIRST;
+    while let Some(frame) = next_judged(source, at)? {
+        at = frame.behind();
     }
     Ok(())
 }

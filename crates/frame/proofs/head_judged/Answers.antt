@@ -2,8 +2,8 @@ use Rattle.std.proofs.lemmas.Result.{err_from_is_err_and}
 use Rattle.frame.proofs.Checks.{id_unknown, level_other, stage_refused, length_signed, head_stands}
 use Rattle.frame.proofs.head_judged.Goals as goal
 
-pub returns-in-None : goal.returns-in-None
-returns-in-None c = id_unknown _ _ _ c.in-None.ensures
+pub returns-in_default : goal.returns-in_default
+returns-in_default c = id_unknown _ _ _ c.in_default.ensures
 
 pub returns-then-head-attribute : goal.returns-then-head-attribute
 returns-then-head-attribute c = level_other _ _ _ _ c.in-Some.ensures c.if-head-attribute.true

@@ -10,9 +10,9 @@ more : {b m : Bool} {p t n : ℕ} → b ≡ m → t ≡ n → ((b ≡ true) × (
 more e f (inl h) q k = h.1 (q ∙ sym f)
 more {b} e f (inr h) q k = both_ways b h (e ∙ k)
 
-pub returns-then-place-total : goal.returns-then-place-total
-returns-then-place-total g c =
-    record { same = refl; reads = frames_end _ _ _ (c.if-place-total.true ∙ c.len-total.ensures.value) (sym c.may_end-complete.ensures ∙ c.if-complete.true); within = tt }
+pub returns-then-at-total : goal.returns-then-at-total
+returns-then-at-total g c =
+    record { same = refl; reads = frames_end _ _ _ (c.if-at-total.true ∙ c.len-total.ensures.value) (sym c.may_end-complete.ensures ∙ c.if-complete.true); within = tt }
 
 pub returns-in_err-frame : goal.returns-in_err-frame
 returns-in_err-frame g c =

@@ -12,15 +12,15 @@ returns-then-place-total g c =
 pub returns-in_err-stored : goal.returns-in_err-stored
 returns-in_err-stored g c = absurd (omega (arith, (asked_lost _ _ _ _ _ c.in_err-stored.ensures.value).0))
 
-pub returns-in_err-sum-in_default : goal.returns-in_err-sum-in_default
-returns-in_err-sum-in_default g c =
+pub returns-in_err-sum : goal.returns-in_err-sum
+returns-in_err-sum g c =
     let s = c.in_ok-stored.ensures.same in
-    absurd (omega (arith, (asked_lost _ _ _ _ _ (rw s at c.in_err-sum-in_default.ensures.value)).0))
+    absurd (omega (arith, (asked_lost _ _ _ _ _ (rw s at c.in_err-sum.ensures.value)).0))
 
 pub returns-then-stored-sum : goal.returns-then-stored-sum
 returns-then-stored-sum g c =
     let h = c.in_ok-stored.ensures in
-    let k = c.in_ok-sum-in_default.ensures in
+    let k = c.in_ok-sum.ensures in
     record {
       same = k.same ∙ h.same;
       reads = sum_differs _ _ _ _ _ _ (omega arith) (other_class _ c.in_default.not-Class) (asked_got _ _ _ _ _ h.value).1 (asked_got _ _ _ _ _ (rw h.same at k.value)).1 c.if-stored-sum.true;
@@ -32,10 +32,10 @@ returns-in-Class g c =
     let h = c.in_ok-stored.ensures in
     record { same = h.same; reads = rw c.in-Class.is (sum_ignored _ _ _ _ (omega arith) (asked_got _ _ _ _ _ h.value).1); within = omega arith }
 
-pub returns-else-stored-sum : goal.returns-else-stored-sum
-returns-else-stored-sum g c =
+pub returns : goal.returns
+returns g c =
     let h = c.in_ok-stored.ensures in
-    let k = c.in_ok-sum-in_default.ensures in
+    let k = c.in_ok-sum.ensures in
     record {
       same = k.same ∙ h.same;
       reads = sum_agrees _ _ _ _ _ _ (omega arith) (other_class _ c.in_default.not-Class) (asked_got _ _ _ _ _ h.value).1 (asked_got _ _ _ _ _ (rw h.same at k.value)).1 c.if-stored-sum.false;

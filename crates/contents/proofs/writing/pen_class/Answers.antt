@@ -4,4 +4,4 @@ use Rattle.contents.proofs.writing.pen_class.Goals as goal
 
 pub returns : goal.returns
 unfolding normal
-returns c = (rw c.class_text.ensures at c.pen-a.ensures) ▷ c.pen.ensures
+returns c = (rw c.class_text.ensures at c.put.ensures) ▷ c.put-2.ensures

@@ -4,4 +4,4 @@ use Rattle.contents.proofs.writing.pen_code_page.Goals as goal
 
 pub returns : goal.returns
 unfolding normal
-returns c = c.pen_le32-a.ensures ▷ c.pen_le32.ensures
+returns c = c.put_le.ensures ▷ c.put_le-2.ensures

@@ -5,5 +5,5 @@ use Rattle.contents.proofs.writing.pen_date.Goals as goal
 pub returns : goal.returns
 unfolding normal
 returns c =
-    (((((c.pen_le16-a.ensures ▷ c.pen_le16-b.ensures) ▷ c.pen_le16-c.ensures) ▷ c.pen_le16-d.ensures) ▷ c.pen_le16-e.ensures) ▷ c.pen_le16-f.ensures)
-    ▷ (rw c.weekday.ensures at c.pen_le16.ensures)
+    (((((c.put_le.ensures ▷ c.put_le-2.ensures) ▷ c.put_le-3.ensures) ▷ c.put_le-4.ensures) ▷ c.put_le-5.ensures) ▷ c.put_le-6.ensures)
+    ▷ (rw c.weekday.ensures at c.put_le-7.ensures)

@@ -4,4 +4,4 @@ use Rattle.contents.proofs.writing.pen_status.Goals as goal
 
 pub returns : goal.returns
 unfolding normal
-returns c = rw (c.from.ensures ∙ c.bits.ensures) at c.pen_le32.ensures
+returns c = rw (c.from.ensures ∙ c.bits.ensures) at c.put_le.ensures

@@ -13,5 +13,5 @@ pub returns-in-None : goal.returns-in-None
 returns-in-None g c =
     let h = c.class_at.ensures in
     let k = c.in-None.ensures ∙ ap known h.value in
-    let p = c.pen_from.ensures in
+    let p = c.put_from.ensures in
     record { same = p.same ∙ h.same; value = class_none _ _ _ k (rw h.same at p.value) }

@@ -4,4 +4,4 @@ use Rattle.listform.proofs.fields.pen_filled.Goals as goal
 
 pub returns : goal.returns
 unfolding filled
-returns c = c.pen-a.ensures ▷ (rw c.gap.ensures at c.pen_zeros.ensures)
+returns c = c.put.ensures ▷ (rw c.gap.ensures at c.put_zeros.ensures)

@@ -7,15 +7,10 @@ use Rattle.listform.specs.Forms.{rows_form, number_behind}
 use Rattle.listform.proofs.RowForms.{fit_at, rows_more, behind_more, after_key_above}
 use Rattle.listform.proofs.rows.write_rows_from.Goals as goal
 
-pub write_row-here-requires : goal.write_row-here-requires
-write_row-here-requires g c =
-    let i = c.loop-row.invariant in
-    rw i.0 (c.requires.0, (fit_at (meaning (g.S.Source.content c.args.source.now)) c.args.rows.now c.loop-row.row-index c.row-item.result c.loop-row-test.true c.row-item.is i.2).0)
-
 pub loop-row-preserved : goal.loop-row-preserved
 loop-row-preserved g c =
     let i = c.loop-row.invariant in
-    let q = c.write_row-here.ensures in
+    let q = c.write_row.ensures in
     let xs = meaning (g.S.Source.content c.args.source.now) in (
       q.same ∙ i.0,
       omega (arith, c.after_key-number.ensures, after_key_above (key_of c.row-item.result.key) c.loop-row.number),

@@ -6,8 +6,8 @@ use Rattle.listform.proofs.rows.write_rows_from.Given as goal
 
 abbrev pub invariant-loop-row : goal.invariant-loop-row
 invariant-loop-row g l =
+    let xs = meaning (g.S.Source.content l.initial.source) in
     (g.S.Source.content l.source ≡ g.S.Source.content l.initial.source) × (l.number ≤ l.first + l.row-index)
-    × RowsFit (meaning (g.S.Source.content l.initial.source)) (drop l.row-index l.rows)
-    × Leads l.initial.out l.initial.here (rows_form (meaning (g.S.Source.content l.initial.source)) l.first l.rows)
-    l.out l.here (rows_form (meaning (g.S.Source.content l.initial.source)) l.number (drop l.row-index l.rows))
+    × RowsFit xs (drop l.row-index l.rows)
+    × Leads l.initial.pen (rows_form xs l.first l.rows) l.pen (rows_form xs l.number (drop l.row-index l.rows))
     × (number_behind l.first l.rows ≡ number_behind l.number (drop l.row-index l.rows))

@@ -5,9 +5,10 @@ use Rattle.listform.specs.Forms.{fixed_form, fixed_next}
 use Rattle.listform.specs.Walks.{walked, Within}
 use Rattle.listform.proofs.values.fixed_run.Given as goal
 
-abbrev pub invariant-loop-i : goal.invariant-loop-i
-invariant-loop-i g l =
+abbrev pub invariant-loop : goal.invariant-loop
+invariant-loop g l =
+    let xs = meaning (g.S.Source.content l.initial.source) in
     (g.S.Source.content l.source ≡ g.S.Source.content l.initial.source)
-    × Within (length (meaning (g.S.Source.content l.initial.source))) (fixed_next l.size) (l.count - l.i) l.read
-    × Leads l.initial.out l.initial.here (walked (fixed_form (meaning (g.S.Source.content l.initial.source)) l.kind l.size) (fixed_next l.size) l.count l.place)
-    l.out l.here (walked (fixed_form (meaning (g.S.Source.content l.initial.source)) l.kind l.size) (fixed_next l.size) (l.count - l.i) l.read)
+    × Within (length xs) (fixed_next l.size) (l.count - l.counter) l.read
+    × Leads l.initial.pen (walked (fixed_form xs l.kind l.size) (fixed_next l.size) l.count l.place)
+    l.pen (walked (fixed_form xs l.kind l.size) (fixed_next l.size) (l.count - l.counter) l.read)

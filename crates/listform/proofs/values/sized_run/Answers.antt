@@ -2,49 +2,20 @@ use Rattle.std.proofs.Common.{◌≡◌, suc, ◌+◌, ◌-◌, ◌∙◌, arith
 use Rattle.source.specs.Content.{meaning}
 use Rattle.pen.proofs.Pens.{leads_on, leads_end}
 use Rattle.listform.specs.Forms.{number_there, sized_form, sized_next}
-use Rattle.listform.proofs.WalkSteps.{within_now, within_more, walked_more, walked_none}
+use Rattle.listform.proofs.WalkSteps.{within_more, walked_more, walked_none}
 use Rattle.listform.proofs.values.sized_run.Goals as goal
 
-pub number_at-size-requires : goal.number_at-size-requires
-number_at-size-requires g c =
-    let i = c.loop-i.invariant in
-    let w = within_now _ _ _ _ (omega arith) i.1 in
-    rw i.0 (omega (arith, w))
-
-pub overflow_add-read : goal.overflow_add-read
-overflow_add-read g c =
-    let i = c.loop-i.invariant in
-    let w = within_now _ _ _ _ (omega arith) i.1 in
-    omega (arith, w, c.requires.0)
-
-pub write_sized-here-requires : goal.write_sized-here-requires
-write_sized-here-requires g c =
-    let i = c.loop-i.invariant in
-    let h = c.number_at-size.ensures in
-    let w = within_now _ _ _ _ (omega arith) i.1 in
-    let v = rw i.0 at h.value in
-    rw (h.same, i.0) (omega (arith, w, v))
-
-pub overflow_add-read-in-loop-i-3 : goal.overflow_add-read-in-loop-i-3
-overflow_add-read-in-loop-i-3 g c =
-    let i = c.loop-i.invariant in
-    let w = within_now _ _ _ _ (omega arith) i.1 in
-    let v = rw i.0 at c.number_at-size.ensures.value in
-    omega (arith, w, v, c.gap.ensures, c.requires.0)
-
-pub loop-i-preserved : goal.loop-i-preserved
+pub loop-preserved : goal.loop-preserved
 unfolding sized_form
-loop-i-preserved g c =
-    let i = c.loop-i.invariant in
+loop-preserved g c =
+    let i = c.loop.invariant in
     let h = c.number_at-size.ensures in
-    let q = c.write_sized-here.ensures in
-    let d = c.args.count - (c.loop-i.i + 1) in
-    let n : c.args.count - c.loop-i.i ≡ suc d = omega arith in
-    let v : c.number_at-size.result ≡ number_there (meaning (g.S.Source.content c.args.source.now)) c.loop-i.read = rw i.0 at h.value in
-    let on : c.loop-i.read + (4 + c.number_at-size.result + c.gap.result) ≡ sized_next (meaning (g.S.Source.content c.args.source.now)) c.loop-i.read = omega (arith, v, c.gap.ensures) in
+    let q = c.write_sized.ensures in
+    let d = c.args.count - (c.loop.counter + 1) in
+    let n : c.args.count - c.loop.counter ≡ suc d = omega arith in
+    let v : c.number_at-size.result ≡ number_there (meaning (g.S.Source.content c.args.source.now)) c.loop.read = rw i.0 at h.value in
+    let on : c.loop.read + (4 + c.number_at-size.result + c.gap.result) ≡ sized_next (meaning (g.S.Source.content c.args.source.now)) c.loop.read = omega (arith, v, c.gap.ensures) in
     (q.same ∙ (h.same ∙ i.0), within_more _ _ _ d _ _ n on i.1, leads_on i.2 (walked_more _ _ _ d _ _ n on) (rw (h.same, i.0, v) at q.value))
 
-pub returns : goal.returns
-returns g c =
-    let i = c.loop-i.invariant in
-    record { same = i.0; value = leads_end i.2 (walked_none _ _ _ _ (omega arith)) }
+pub returns-clause-value : goal.returns-clause-value
+returns-clause-value g c = leads_end c.loop.invariant.2 (walked_none _ _ _ _ (omega arith))

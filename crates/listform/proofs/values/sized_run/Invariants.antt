@@ -5,9 +5,10 @@ use Rattle.listform.specs.Forms.{sized_form, sized_next}
 use Rattle.listform.specs.Walks.{walked, Within}
 use Rattle.listform.proofs.values.sized_run.Given as goal
 
-abbrev pub invariant-loop-i : goal.invariant-loop-i
-invariant-loop-i g l =
+abbrev pub invariant-loop : goal.invariant-loop
+invariant-loop g l =
+    let xs = meaning (g.S.Source.content l.initial.source) in
     (g.S.Source.content l.source ≡ g.S.Source.content l.initial.source)
-    × Within (length (meaning (g.S.Source.content l.initial.source))) (sized_next (meaning (g.S.Source.content l.initial.source))) (l.count - l.i) l.read
-    × Leads l.initial.out l.initial.here (walked (sized_form (meaning (g.S.Source.content l.initial.source))) (sized_next (meaning (g.S.Source.content l.initial.source))) l.count l.place)
-    l.out l.here (walked (sized_form (meaning (g.S.Source.content l.initial.source))) (sized_next (meaning (g.S.Source.content l.initial.source))) (l.count - l.i) l.read)
+    × Within (length xs) (sized_next xs) (l.count - l.counter) l.read
+    × Leads l.initial.pen (walked (sized_form xs) (sized_next xs) l.count l.place)
+    l.pen (walked (sized_form xs) (sized_next xs) (l.count - l.counter) l.read)

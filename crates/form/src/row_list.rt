@@ -1,0 +1,72 @@
+// The rows of one target, in an array that has room for all.
+ghost use Rattle.std.specs.Prelude.{◌≡◌, ◌<◌, ◌≤◌, false, List, [], length, take};
+ghost use Rattle.index.specs.Rows.{added};
+ghost use Rattle.index.specs.declared.attributes.AttributeRow.{AttributeRow};
+ghost use Rattle.form.specs.Targets.{row_under, same_id};
+
+use index::{AttributeRow, add, find};
+use std::marker::Model;
+
+// More than there are attributes.
+const ROW_COUNT: usize = 32;
+
+const NO_ROW: AttributeRow = AttributeRow {
+    id: 0,
+    place: 0,
+    size: 0,
+};
+
+#[derive(Drop)]
+pub struct Rows {
+    rows: [AttributeRow; ROW_COUNT],
+    used: usize,
+}
+
+impl Model for Rows {
+    ghost Value = { List AttributeRow };
+
+    ghost view = { λ r. take r.used r.rows };
+
+    ghost invariant = { λ r. r.used ≤ 32 };
+}
+
+impl Rows {
+    pub(crate) fn new() -> Rows
+        ensures { result ≡ [] }
+    {
+        Rows {
+            rows: [NO_ROW; ROW_COUNT],
+            used: 0,
+        }
+    }
+
+    pub(crate) fn len(&self) -> usize
+        ensures { result ≡ length self.now }
+    {
+        self.used
+    }
+
+    // Adds a row: of two with one id the earlier stands.
+    pub(crate) fn add(&mut self, row: AttributeRow)
+        requires { length self.old < 32 }
+        ensures { self.new ≡ added same_id false self.old row }
+    {
+        if let Some(used) = add(&mut self.rows, self.used, row) {
+            self.used = used;
+        }
+    }
+
+    // The row under an id.
+    pub fn under(&self, id: u32) -> Option<AttributeRow>
+        ensures { result ≡ row_under id self.now }
+    {
+        let rows = &self.rows[0..self.used];
+        let probe = AttributeRow {
+            id,
+            place: 0,
+            size: 0,
+        };
+        let k = find(rows, &probe)?;
+        Some(rows[k])
+    }
+}
