@@ -1,10 +1,10 @@
 -- What was written is read again.
-use Rattle.std.proofs.Common.{◌≡◌, ℕ, zero, suc, ◌+◌, ◌-◌, ◌/◌, ◌^◌, ◌<◌, ◌≤◌, Bool, true, false, List, [], ◌∷◌, ◌++◌, length, take, drop, Some, None, Ok, Option, sym, refl, ap, ◌∙◌, arith}
+use Rattle.std.proofs.Common.{◌≡◌, ℕ, ◌+◌, ◌^◌, ◌<◌, ◌≤◌, Bool, true, false, List, [], ◌∷◌, ◌++◌, length, take, drop, Some, None, Ok, Option, sym, refl, ap, ◌∙◌, add-zero, arith}
 use Rattle.std.specs.List.{flat_map, AllByRecursion}
 use Rattle.std.proofs.lemmas.List.{length-append, length-replicate, take-take, take_at, drop_at, drop-take, drop-drop}
 use Rattle.std.proofs.lemmas.Bool.{eqb-true, le-leb, le-ltb, lt-ltb}
 use Rattle.scan.proofs.Numbers.{length_le, val_le}
-use Rattle.source.specs.Bytes.{part, val, le}
+use Rattle.source.specs.Bytes.{part, le}
 use Rattle.source.specs.Outcome.{Outcome, ◌>>=◌}
 use Rattle.index.specs.Keys.{Key, tag, numbered, named}
 use Rattle.index.specs.Limits.{name_limit}
@@ -24,21 +24,20 @@ unfolding filled
 length_filled a = simp (length-append, length-replicate) (omega arith)
 
 module _ (xs : List ℕ) (end : ℕ) where
-  split : (p : ℕ) (a b : List ℕ) → Stands xs end p (a ++ b) → Stands xs end p a × Stands xs end (p + length a) b
+  -- One list of bytes, and behind it at q another.
+  split : (p q : ℕ) (a b : List ℕ) → p + length a ≡ q → Stands xs end p (a ++ b) → Stands xs end p a × Stands xs end q b
   unfolding part
-  split p a b s =
+  split p q a b g s =
       let n = length-append a b in
-      let e : take (length a + length b) (drop p xs) ≡ a ++ b = rw n at s.1 in (
+      let e : take (length a + length b) (drop p xs) ≡ a ++ b = rw n at s.1 in
+      rw (← g) (
         (omega arith, sym (take-take (length a) (length a + length b) (drop p xs) (omega arith)) ∙ ap (take (length a)) e ∙ take_at a b (length a) refl),
         (omega arith, ap (take (length b)) (sym (drop-drop (length a) p xs)) ∙ sym (drop-take (length a) (length b) (drop p xs)) ∙ ap (drop (length a)) e ∙ drop_at a b (length a) refl),
       )
 
-  moved : (p q : ℕ) (a : List ℕ) → p ≡ q → Stands xs end p a → Stands xs end q a
-  moved p q a e s = rw (← e) s
-
   unfilled : (p : ℕ) (a : List ℕ) → Stands xs end p (filled a) → Stands xs end p a
   unfolding filled
-  unfilled p a s = (split p a _ s).0
+  unfilled p a s = (split p _ a _ refl s).0
 
   -- One thing after another.
   module _ {A : Type 0} (read : ℕ → Outcome (At A)) (write : A → List ℕ) (V : A → Type 0)
@@ -46,10 +45,10 @@ module _ (xs : List ℕ) (end : ℕ) where
     repeated_back : (p : ℕ) (as' : List A) → AllByRecursion V as' → Stands xs end p (flat_map write as')
         → Ok (at as' (p + length (flat_map write as'))) ≡ repeated read (length as') p
     unfolding repeated ◌>>=◌
-    repeated_back p [] v s = ap (λ n. Ok (at [] n)) (omega arith)
+    repeated_back p [] v s = rw add-zero
     repeated_back p (a ∷ as') v s =
-        let (h, t) = split p (write a) (flat_map write as') s in
-        let e : p + length (write a ++ flat_map write as') ≡ p + length (write a) + length (flat_map write as') = omega (arith, length-append (write a) (flat_map write as')) in
+        let (h, t) = split p _ (write a) (flat_map write as') refl s in
+        let e : p + length (write a ++ flat_map write as') ≡ p + length (write a) + length (flat_map write as') = simp length-append (omega arith) in
         rw (e, ← one p a v.0 h, ← repeated_back (p + length (write a)) as' v.1 t)
 
   module _ (start : ℕ) where
@@ -67,27 +66,19 @@ module _ (xs : List ℕ) (end : ℕ) where
         → (Ok (sized_by xs p (length a)) ≡ sized xs end start p) × (part xs (p + 4) (length a) ≡ a) × (p + 4 + padded (length a) ≤ end)
     unfolding sized
     sized_back p a h s =
-        let (n, f) = split p (le 4 (length a)) (filled a) s in
-        let g = moved _ (p + 4) _ (ap (λ n. p + n) (length_le 4 (length a))) f in
-        let l = length_filled a in
-        let fits : p + 4 + padded (length a) ≤ end = omega (arith, g.0) in
-        (rw (← number_back 4 (length a) p h n, le-leb (p + 4 + padded (length a)) end fits), (unfilled (p + 4) a g).1, fits)
+        let (n, f) = split p (p + 4) (le 4 (length a)) (filled a) (omega (arith, length_le)) s in
+        let fits : p + 4 + padded (length a) ≤ end = omega (arith, f.0, length_filled a) in
+        (rw (← number_back 4 (length a) p h n, le-leb (p + 4 + padded (length a)) end fits), (unfilled (p + 4) a f).1, fits)
 
     -- A name: its number, its GUID, its kind, and what stands behind them.
     name_parts : (number kind p : ℕ) (g b : List ℕ) → length g ≡ 16 → kind < 256 ^ 4 → number < 256 ^ 2 → Stands xs end p (le 2 number ++ (g ++ (le 4 kind ++ b)))
         → (Ok number ≡ number_at xs end start p 2) × (Ok g ≡ field xs end start (p + 2) 16) × (Ok kind ≡ number_at xs end start (p + 2 + 16) 4) × Stands xs end (p + 2 + 20) b
         × (p + length (le 2 number ++ (g ++ (le 4 kind ++ b))) ≡ p + 2 + 20 + length b)
     name_parts number kind p g b l k m s =
-        let (s₁, r₁) = split p (le 2 number) _ s in
-        let (s₂, r₂) = split (p + 2) g _ (moved _ (p + 2) _ (ap (λ n. p + n) (length_le 2 number)) r₁) in
-        let (s₃, r₃) = split (p + 2 + 16) (le 4 kind) b (moved _ (p + 2 + 16) _ (ap (λ n. p + 2 + n) l) r₂) in
-        let e : p + 2 + 16 + length (le 4 kind) ≡ p + 2 + 20 = omega (arith, length_le 4 kind) in (
-          number_back 2 number p m s₁,
-          field_back 16 (p + 2) g l s₂,
-          number_back 4 kind (p + 2 + 16) k s₃,
-          moved _ (p + 2 + 20) b e r₃,
-          simp (length-append, length_le) (omega arith),
-        )
+        let (s₁, r₁) = split p (p + 2) (le 2 number) _ (omega (arith, length_le)) s in
+        let (s₂, r₂) = split (p + 2) (p + 2 + 16) g _ (omega arith) r₁ in
+        let (s₃, r₃) = split (p + 2 + 16) (p + 2 + 20) (le 4 kind) b (omega (arith, length_le)) r₂ in
+        (number_back 2 number p m s₁, field_back 16 (p + 2) g l s₂, number_back 4 kind (p + 2 + 16) k s₃, r₃, simp (length-append, length_le) (omega arith))
 
     key_back : end ≤ length xs → (number p : ℕ) (k : Key) → first_named ≤ number → number < 256 ^ 2 → ValidKey k → Stands xs end p (write_key number k)
         → Ok (at k (p + length (write_key number k))) ≡ key_at xs end start p
@@ -99,7 +90,7 @@ module _ (xs : List ℕ) (end : ℕ) where
     key_back l number p (named g t) a b v s =
         let (i, f, k, r, w) = name_parts number 1 p g (le 4 (length t) ++ filled t) v.0 (omega arith) b s in
         let (e, q, fits) = sized_back (p + 2 + 20) t (omega arith) r in
-        let n : p + 2 + 20 + length (le 4 (length t) ++ filled t) ≡ p + 2 + 20 + 4 + padded (length t) = omega (arith, length-append (le 4 (length t)) (filled t), length_le 4 (length t), length_filled t) in
+        let n : p + 2 + 20 + length (le 4 (length t) ++ filled t) ≡ p + 2 + 20 + 4 + padded (length t) = simp (length-append, length_le, length_filled) (omega arith) in
         rw (w, n, ← i, le-ltb number first_named a, ← f, ← k, ← e, q, le-leb (length t) name_limit v.1, v.2)
 
     fixed_one_back : (k : Kind) (w p : ℕ) (v : Value) → width k ≡ Some w → OfKind k v → Stands xs end p (write_fixed v)
@@ -107,8 +98,7 @@ module _ (xs : List ℕ) (end : ℕ) where
     unfolding fixed_value
     fixed_one_back k w p v e o s =
         let l : length (normal v) ≡ w = eqb-true _ _ (rw e at o.admitted.0) in
-        let n = length_filled (normal v) in
-        let m : length (filled (normal v)) ≡ padded w = rw l at n in
+        let m : length (filled (normal v)) ≡ padded w = rw l at (length_filled (normal v)) in
         rw (m, le-leb (p + padded w) end (omega arith), rw l at (unfilled p (normal v) s).1, o.means)
 
     sized_one_back : (k : Kind) (p : ℕ) (v : Value) → OfKind k v → Stands xs end p (write_sized v)
@@ -116,15 +106,15 @@ module _ (xs : List ℕ) (end : ℕ) where
     unfolding sized_value
     sized_one_back k p v o s =
         let (e, q, fits) = sized_back p (normal v) o.small s in
-        let n : p + length (write_sized v) ≡ p + 4 + padded (length (normal v)) = omega (arith, length-append (le 4 (length (normal v))) (filled (normal v)), length_le 4 (length (normal v)), length_filled (normal v)) in
+        let n : p + length (write_sized v) ≡ p + 4 + padded (length (normal v)) = simp (length-append, length_le, length_filled) (omega arith) in
         rw (n, ← e, q, o.admitted.1, o.means)
 
     -- A count and what stands behind it.
     count_parts : (n p : ℕ) (b : List ℕ) → n < 256 ^ 4 → Stands xs end p (le 4 n ++ b)
         → (Ok n ≡ number_at xs end start p 4) × Stands xs end (p + 4) b × (p + length (le 4 n ++ b) ≡ p + 4 + length b)
     count_parts n p b h s =
-        let (a, r) = split p (le 4 n) b s in
-        (number_back 4 n p h a, moved _ (p + 4) b (ap (λ n. p + n) (length_le 4 n)) r, simp (length-append, length_le) (omega arith))
+        let (a, r) = split p (p + 4) (le 4 n) b (omega (arith, length_le)) s in
+        (number_back 4 n p h a, r, simp (length-append, length_le) (omega arith))
 
     values_of_back : (o : Option ℕ) (k : Kind) (several : Bool) (p : ℕ) (vs : List Value) → width k ≡ o → AllByRecursion (OfKind k) vs → Counted o several (length vs)
         → Stands xs end p (write_values o several vs) → Ok (at vs (p + length (write_values o several vs))) ≡ values_of xs end start o k several p
@@ -153,8 +143,8 @@ module _ (xs : List ℕ) (end : ℕ) where
             → Ok (at q (p + length (le 2 q.type ++ (write_key number q.key ++ write_shaped o q.values)))) ≡ property_at xs end p
         go None e w s = absurd w
         go (Some t) e w s =
-            let (s₁, r₁) = split p (le 2 q.type) _ s in
-            let (s₂, r₂) = split (p + 2) (write_key number q.key) _ (moved _ (p + 2) _ (ap (λ n. p + n) (length_le 2 q.type)) r₁) in
+            let (s₁, r₁) = split p (p + 2) (le 2 q.type) _ (omega (arith, length_le)) s in
+            let (s₂, r₂) = split (p + 2) _ (write_key number q.key) _ refl r₁ in
             let n : p + length (le 2 q.type ++ (write_key number q.key ++ write_shaped (Some t) q.values)) ≡ p + 2 + length (write_key number q.key) + length (write_shaped (Some t) q.values)
             = simp (length-append, length_le) (omega arith) in
             rw (n, ← number_back p 2 q.type p v.type_small s₁, e, ← key_back p l number (p + 2) q.key a b v.key_valid s₂, ← values_back p t _ q.values w r₂)
@@ -167,12 +157,12 @@ module _ (xs : List ℕ) (end : ℕ) where
     properties_back : (number p : ℕ) (ps : List Property) → first_named ≤ number → number + length ps ≤ 256 ^ 2 → AllByRecursion Valid ps → Stands xs end p (write_properties number ps)
         → Ok (at ps (p + length (write_properties number ps))) ≡ repeated (property_at xs end) (length ps) p
     unfolding repeated ◌>>=◌
-    properties_back number p [] a b v s = ap (λ n. Ok (at [] n)) (omega arith)
+    properties_back number p [] a b v s = rw add-zero
     properties_back number p (q ∷ ps) a b v s =
-        let (h, t) = split p (write_property number q) _ s in
+        let (h, t) = split p _ (write_property number q) _ refl s in
         let m = next_number q.key number in
         let e : p + length (write_property number q ++ write_properties (after_key q.key number) ps) ≡ p + length (write_property number q) + length (write_properties (after_key q.key number) ps)
-        = omega (arith, length-append (write_property number q) (write_properties (after_key q.key number) ps)) in
+        = simp length-append (omega arith) in
         rw (e, ← property_back number p q a (omega arith) v.0 h, ← properties_back (after_key q.key number) (p + length (write_property number q)) ps (omega arith) (omega arith) v.1 t)
 
     list_back : (p : ℕ) (ps : List Property) → ValidList ps → Stands xs end p (write_list ps) → Ok (at ps (p + length (write_list ps))) ≡ list_at xs end p

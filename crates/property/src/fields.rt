@@ -1,5 +1,5 @@
 // The fields of a list: numbers, GUIDs, and bytes behind their size.
-// The source and the end of its data stay two parameters: were they one struct that is lent, each contract would have to say that the end stays.
+// The source and the end of its data stay two parameters: with a struct of both, each contract would have to say that the end stays.
 ghost use Rattle.std.specs.Prelude.{◌≡◌, ◌+◌, ◌^◌, ◌<◌, ◌≤◌, length, IfOk, OnOk, ◌==◌, nat_le};
 ghost use Rattle.source.specs.Content.{meaning};
 ghost use Rattle.source.specs.Outcome.{need, over};
