@@ -1,15 +1,16 @@
 // Drafts: a message's written form in a lent area.
 #![tactic(auto)]
 
-ghost use Rattle.std.specs.Prelude.{◌≡◌, ℕ, ◌-◌, ◌≤◌, ◌&&◌, ◌++◌, length, take, replicate, IfOk, Some, Ok};
+ghost use Rattle.std.specs.Prelude.{◌≡◌, ◌-◌, ◌≤◌, ◌++◌, length, take, replicate, IfOk};
 ghost use Rattle.source.specs.Bytes.{le};
 ghost use Rattle.scan.specs.Scans.{checksum};
 ghost use Rattle.pen.specs.Pen.{Wrote};
 ghost use Rattle.source.specs.Content.{meaning};
-ghost use Rattle.source.specs.Outcome.{over};
+ghost use Rattle.source.specs.declared.refusals.Reason.TheVariants.{ShortWork};
+ghost use Rattle.source.specs.Outcome.{over, need};
 ghost use Rattle.stream.specs.Messages.{read};
 ghost use Rattle.stream.specs.Writing.{written};
-ghost use Rattle.draft.specs.Drafts.{memory, blank, begun, loaded, area_after, size_after, blank_row, Front};
+ghost use Rattle.draft.specs.Drafts.{memory, enough, blank, begun, loaded, area_after, size_after, blank_row, Front};
 ghost use Rattle.std.specs.Str.{bytes_eq};
 ghost use Rattle.draft.specs.Promise.{LoadsDecide, compared, next_load, Tells};
 
