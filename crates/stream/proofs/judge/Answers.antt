@@ -15,10 +15,10 @@ loop-frame-preserved g c =
     let h = c.in_ok-frame.ensures in
     let w = rw c.in-Some.is at h.within in
     let e = ap Ok (sym c.in-Some.is) ∙ (rw i.0 at h.reads) in
-    (h.same ∙ i.0, omega (arith, w.0), w.1, rest_on _ _ _ _ i.1 e ∙ i.3)
+    rw c.behind-at.ensures (h.same ∙ i.0, omega (arith, w.0), w.1, rest_on _ _ _ _ i.1 e ∙ i.3)
 
 pub loop-frame-smaller : goal.loop-frame-smaller
-loop-frame-smaller g c = let w = rw c.in-Some.is at c.in_ok-frame.ensures.within in omega (arith, w.0, w.1)
+loop-frame-smaller g c = let w = rw c.in-Some.is at c.in_ok-frame.ensures.within in rw c.behind-at.ensures (omega (arith, w.0, w.1))
 
 pub returns-in_err-frame : goal.returns-in_err-frame
 returns-in_err-frame g c =
