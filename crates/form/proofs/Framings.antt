@@ -1,18 +1,18 @@
--- Frames around data that are written first, and the steps of a loop that writes.
+-- Frames around data that are written first.
 use Rattle.std.proofs.Common.{◌≡◌, ℕ, ◌+◌, ◌-◌, ◌%◌, ◌<◌, ◌≤◌, List, [], ◌∷◌, ◌++◌, length, get_or, take, drop, Some, None, Option, sym, ap, ◌∙◌, append_assoc, arith, rules}
 use borrow.Rule.Slice.PartMut.{put_mid}
 use Rattle.std.proofs.lemmas.List.{places, same_lists, length-take, length-drop, length-append, drop_at}
-use Rattle.std.proofs.lemmas.List.Sums.{sum_by_more}
+use Rattle.std.proofs.lemmas.List.Sums.{sum_by_push}
 use Rattle.source.specs.Bytes.{part, le}
 use Rattle.scan.specs.Scans.{checksum}
 use Rattle.scan.proofs.Numbers.{length_part}
 use Rattle.contents.proofs.LittleEndian.{length_le}
-use Rattle.pen.specs.Pen.{Penned, Told}
-use Rattle.pen.proofs.Pens.{pen_none, ◌▷◌}
-use Rattle.form.specs.Framing.{placed, framed, Leads, Opened, Closable, Sealed, Closed}
+use Rattle.pen.specs.declared.Pen.{Pen}
+use Rattle.pen.specs.Pen.{Told, Wrote}
+use Rattle.form.specs.Framing.{placed, framed, Begins, Opened, Closable, Sealed, Closed}
 
-pub checksum_more : (xs : List ℕ) (i : ℕ) → i < length xs → checksum (take (i + 1) xs) ≡ (checksum (take i xs) + get_or xs i 0) % 65536
-checksum_more xs i h = omega (arith, sum_by_more (λ x. x) xs i 0 h)
+pub checksum_push : (xs : List ℕ) (x : ℕ) → (checksum xs + x) % 65536 ≡ checksum (xs ++ x ∷ [])
+checksum_push xs x = omega (arith, sum_by_push (λ y. y) xs x)
 
 pub length_framed : (level id : ℕ) (xs : List ℕ) → length (framed level id xs) ≡ 11 + length xs
 unfolding framed
@@ -88,7 +88,7 @@ grown b i xs m n h l e t =
     omega (arith, length-take n m, length-take i b, length-append (take i b) xs)
 
 sealed : (b : List ℕ) (o k : Option ℕ) (xs m : List ℕ) (p : Option ℕ) (level id : ℕ) (a : List ℕ) (r : Option ℕ)
-    → length m ≡ length b → Opened b o k → Told b k xs m p → Sealed m o p level id a r → Told b o (framed level id xs) a r
+    → length m ≡ length b → Begins b o k → Told b k xs m p → Sealed m o p level id a r → Told b o (framed level id xs) a r
 sealed b None k xs m p level id a r l f s t = t
 sealed b (Some i) None xs m None level id a r l f s t = rw t (omega (arith, length_framed level id xs))
 sealed b (Some i) None xs m (Some e) level id a r l f s t = let z : ◌≡◌ {A = ℕ} 0 1 = cc in absurd (omega arith)
@@ -99,24 +99,22 @@ sealed b (Some i) (Some n) xs m (Some e) level id a r l f s t =
     let d : part m (i + 9) (e - (i + 9)) ≡ xs = behind_front b (i + 9) xs m e (omega arith) l g q in
     moved b m i _ _ a r l (before_front b i (i + 9) xs m e (omega arith) (omega arith) l g q) (ap (framed level id) d) t
 
-closes : (b : List ℕ) (o k : Option ℕ) (xs m : List ℕ) (p : Option ℕ) → length m ≡ length b → Opened b o k → Told b k xs m p → Closable m o p
+closes : (b : List ℕ) (o k : Option ℕ) (xs m : List ℕ) (p : Option ℕ) → length m ≡ length b → Begins b o k → Told b k xs m p → Closable m o p
 closes b None k xs m p l f s = tt
 closes b (Some i) k xs m None l f s = tt
 closes b (Some i) None xs m (Some e) l f s = let z : ◌≡◌ {A = ℕ} 0 1 = cc in absurd (omega arith)
 closes b (Some i) (Some n) xs m (Some e) l f s = let g = grown b n xs m e f.1 l s.0 s.1 in (omega arith, omega arith)
 
-pub pen_closable : {b : List ℕ} (o : Option ℕ) {k : Option ℕ} {xs m : List ℕ} {p : Option ℕ} → Opened b o k → Penned b k xs m p → Closable m o p
-pen_closable {b} o {k} {xs} {m} {p} f s = closes b o k xs m p s.kept f s.told
+-- The data that a pen has written behind the place that was opened.
+pub pen_closable : {p : Pen} {start : Option ℕ} {q : Pen} {xs : List ℕ} {r : Pen} → Opened p start q → Wrote q xs r → Closable r.out.now start r.here
+pen_closable {p} {start} {q} {xs} {r} f s =
+    rw f.from (closes p.out.now p.here q.here xs r.out.now r.here (s.kept ∙ ap length f.same) f.place (rw f.same at s.told))
 
-pub pen_frame : {b : List ℕ} {o k : Option ℕ} {xs m : List ℕ} {p : Option ℕ} {level id : ℕ} {a : List ℕ} {r : Option ℕ}
-    → Opened b o k → Penned b k xs m p → Closed m o p level id a r → Penned b o (framed level id xs) a r
-pen_frame {b} {o} {k} {xs} {m} {p} {level} {id} {a} {r} f s t =
-    record { kept = t.kept ∙ s.kept; told = sealed b o k xs m p level id a r s.kept f s.told t.told }
-
--- One part more of what a loop writes, and the end.
-pub leads_on : {b : List ℕ} {o : Option ℕ} {whole m : List ℕ} {k : Option ℕ} {rest xs more after : List ℕ} {n : Option ℕ}
-    → Leads b o whole m k rest → rest ≡ xs ++ more → Penned m k xs after n → Leads b o whole after n more
-leads_on inv e p a r q = inv a r (rw e (p ▷ q))
-
-pub leads_end : {b : List ℕ} {o : Option ℕ} {whole m : List ℕ} {k : Option ℕ} {rest : List ℕ} → Leads b o whole m k rest → rest ≡ [] → Penned b o whole m k
-leads_end {m = m} {k = k} inv e = inv m k (rw e pen_none)
+pub pen_frame : {p : Pen} {start : Option ℕ} {q : Pen} {xs : List ℕ} {r : Pen} {level id : ℕ} {after : Pen}
+    → Opened p start q → Wrote q xs r → Closed r start level id after → Wrote p (framed level id xs) after
+pen_frame {p} {start} {q} {xs} {r} {level} {id} {after} f s t = record {
+  reference = t.reference ∙ s.reference ∙ f.reference;
+  kept = t.kept ∙ s.kept ∙ ap length f.same;
+  told = sealed p.out.now p.here q.here xs r.out.now r.here level id after.out.now after.here
+      (s.kept ∙ ap length f.same) f.place (rw f.same at s.told) (rw f.from at t.told);
+}

@@ -1,5 +1,6 @@
 -- Rows of a target that are gathered frame by frame.
-use Rattle.std.proofs.Common.{◌≡◌, ℕ, zero, suc, ◌+◌, ◌<◌, ◌≤◌, Bool, true, false, cond, ◌&&◌, ◌||◌, eqb, ltb, List, [], ◌∷◌, ◌++◌, map, length, get_or, take, Some, None, Option, sym, refl, ap, ◌∙◌, inl, inr, one-add, arith}
+use Rattle.std.proofs.Common.{◌≡◌, ℕ, ◌+◌, ◌<◌, ◌≤◌, Bool, true, false, cond, ◌&&◌, ◌||◌, eqb, ltb, List, [], ◌∷◌, ◌++◌, map, length, get_or, take, Some, None, Option, sym, refl, ap, ◌∙◌, inl, inr, one-add, arith}
+use Rattle.std.specs.Prelude.{find as first_such}
 use Rattle.std.specs.List.{AllByRecursion}
 use Rattle.std.proofs.lemmas.List.{length-append, length-take}
 use Rattle.std.proofs.ByRecursion.{All-push}
@@ -144,33 +145,32 @@ module _ (r : AttributeRow) where
     | inr f ↦ rw f (omega arith)
   ]
 
--- The entries that are left of a target of which there are `used` rows, and those behind them.
-abbrev pub left_part : ℕ → List Entry → List Entry
-left_part zero es = own_part es
-left_part (suc n) es = message_part es
+-- The entries that are left of a target of which there are these rows, and those behind them.
+abbrev pub left_part : List AttributeRow → List Entry → List Entry
+left_part [] es = own_part es
+left_part (r ∷ rs) es = message_part es
 
-abbrev pub left_past : ℕ → List Entry → List Entry
-left_past zero es = past_part es
-left_past (suc n) es = later_part es
+abbrev pub left_past : List AttributeRow → List Entry → List Entry
+left_past [] es = past_part es
+left_past (r ∷ rs) es = later_part es
 
-abbrev pub Moved : ℕ → ℕ → ℕ → Type 0
-Moved zero p q = p ≡ q
-Moved (suc n) p q = p < q
+abbrev pub Moved : List AttributeRow → ℕ → ℕ → Type 0
+Moved [] p q = p ≡ q
+Moved (r ∷ rs) p q = p < q
 
 -- A target that is being gathered from p on, and has come to q.
-pub record Gathering (xs : List ℕ) (p : ℕ) (s : Stage) (used : ℕ) (rows : List AttributeRow) (q : ℕ) (t : Stage) : Type 0 where
+pub record Gathering (xs : List ℕ) (p : ℕ) (s : Stage) (rows : List AttributeRow) (q : ℕ) (t : Stage) : Type 0 where
   pub good : Readable xs q t
-  pub room : used ≤ length rows
-  pub few : length (take used rows) ≤ covered (take used rows) attributes
-  pub sound : AllByRecursion (Standing xs) (take used rows)
-  pub held : (i : ℕ) → entry_under i (own_part (remaining xs p s)) ≡ or_else (entry_under i (map (row_entry xs) (take used rows))) (entry_under i (left_part used (remaining xs q t)))
-  pub past : past_part (remaining xs p s) ≡ left_past used (remaining xs q t)
-  pub moved : Moved used p q
+  pub few : length rows ≤ covered rows attributes
+  pub sound : AllByRecursion (Standing xs) rows
+  pub held : (i : ℕ) → entry_under i (own_part (remaining xs p s)) ≡ or_else (entry_under i (map (row_entry xs) rows)) (entry_under i (left_part rows (remaining xs q t)))
+  pub past : past_part (remaining xs p s) ≡ left_past rows (remaining xs q t)
+  pub moved : Moved rows p q
   pub along : AsWritten xs p s → AsWritten xs q t
-  pub normal : AsWritten xs p s → AllByRecursion (NormalRow xs) (take used rows)
+  pub normal : AsWritten xs p s → AllByRecursion (NormalRow xs) rows
 
-pub gather_none : (xs : List ℕ) (p : ℕ) (s : Stage) (rows : List AttributeRow) → Readable xs p s → Gathering xs p s 0 rows p s
-gather_none xs p s rows g = record { good = g; room = omega arith; few = omega arith; sound = tt; held = λ i. refl; past = refl; moved = refl; along = λ w. w; normal = λ w. tt }
+pub gather_none : (xs : List ℕ) (p : ℕ) (s : Stage) → Readable xs p s → Gathering xs p s [] p s
+gather_none xs p s g = record { good = g; few = omega arith; sound = tt; held = λ i. refl; past = refl; moved = refl; along = λ w. w; normal = λ w. tt }
 
 -- The frame that comes next is of the target, or it is not.
 own_some : (used : ℕ) (o : Option Frame) (f : Frame) → own_next used o ≡ Some f → (o ≡ Some f) × ((ltb 0 used && eqb f.attribute.id rendering_id) ≡ false)
@@ -182,58 +182,55 @@ own_some used (Some h) f e = by_test (ltb 0 used && eqb h.attribute.id rendering
     by_test true t e = let z : ◌≡◌ {A = ℕ} 0 1 = cc in absurd (omega arith)
     by_test false t e = let q : h ≡ f = cc in (e, rw (← q) t)
 
-left_more : (used : ℕ) (e : Entry) (es : List Entry) → (ltb 0 used && eqb e.id rendering_id) ≡ false
-    → (left_part used (e ∷ es) ≡ e ∷ message_part es) × (left_past used (e ∷ es) ≡ later_part es)
+left_more : (rows : List AttributeRow) (e : Entry) (es : List Entry) → (ltb 0 (length rows) && eqb e.id rendering_id) ≡ false
+    → (left_part rows (e ∷ es) ≡ e ∷ message_part es) × (left_past rows (e ∷ es) ≡ later_part es)
 unfolding own_part past_part message_part later_part
-left_more zero e es n = (refl, refl)
-left_more (suc k) e es n = let q : eqb e.id rendering_id ≡ false = rw (lt-ltb 0 (suc k) (omega arith)) at n in (rw q, rw q)
+left_more [] e es n = (refl, refl)
+left_more (r ∷ rows) e es n = let q : eqb e.id rendering_id ≡ false = rw (lt-ltb 0 (length (r ∷ rows)) (omega arith)) at n in (rw q, rw q)
 
-later_on : (used n p q r : ℕ) → Moved used p q → q < r → 0 < n → Moved n p r
-later_on used zero p q r m h k = absurd (omega arith)
-later_on zero (suc n) p q r m h k = omega arith
-later_on (suc u) (suc n) p q r m h k = omega arith
+later_on : (rows more : List AttributeRow) (p q r : ℕ) → Moved rows p q → q < r → 0 < length more → Moved more p r
+later_on rows [] p q r m h k = absurd (omega arith)
+later_on [] (b ∷ more) p q r m h k = omega arith
+later_on (a ∷ rows) (b ∷ more) p q r m h k = omega arith
 
-grown_part : (n : ℕ) (es : List Entry) → 0 < n → (left_part n es ≡ message_part es) × (left_past n es ≡ later_part es)
-grown_part zero es h = absurd (omega arith)
-grown_part (suc n) es h = (refl, refl)
+grown_part : (rows : List AttributeRow) (es : List Entry) → 0 < length rows → (left_part rows es ≡ message_part es) × (left_past rows es ≡ later_part es)
+grown_part [] es h = absurd (omega arith)
+grown_part (r ∷ rows) es h = (refl, refl)
 
-pub gather_more : (xs : List ℕ) (p : ℕ) (s : Stage) (used : ℕ) (rows : List AttributeRow) (q : ℕ) (t : Stage) (f : Frame) (n : ℕ) (after : List AttributeRow)
-    → Gathering xs p s used rows q t → own_next used (known (next_frame xs q t)) ≡ Some f
-    → n ≤ length after → take n after ≡ added same_id false (take used rows) (frame_row f)
-    → Gathering xs p s n after f.next f.stage
+pub gather_more : (xs : List ℕ) (p : ℕ) (s : Stage) (rows : List AttributeRow) (q : ℕ) (t : Stage) (f : Frame) (after : List AttributeRow)
+    → Gathering xs p s rows q t → own_next (length rows) (known (next_frame xs q t)) ≡ Some f → after ≡ added same_id false rows (frame_row f)
+    → Gathering xs p s after f.next f.stage
 unfolding row_entry attribute_of
-gather_more xs p s used rows q t f n after g e l a =
-    let (o, own) = own_some used (known (next_frame xs q t)) f e in
+gather_more xs p s rows q t f after g e a =
+    let (o, own) = own_some (length rows) (known (next_frame xs q t)) f e in
     let k = steps xs q t g.good f o in
-    let (lp, lq) = left_more used (row_entry xs (frame_row f)) (remaining xs f.next f.stage) own in
-    let some = some_row (frame_row f) (take used rows) in
-    let m : 0 < n = omega (arith, ap length a, length-take n after) in
-    let (gp, gq) = grown_part n (remaining xs f.next f.stage) m in
+    let (lp, lq) = left_more rows (row_entry xs (frame_row f)) (remaining xs f.next f.stage) own in
+    let m : 0 < length after = rw a (some_row (frame_row f) rows) in
+    let (gp, gq) = grown_part after (remaining xs f.next f.stage) m in
     record {
       good = k.after;
-      room = l;
-      few = rw a (few_more (frame_row f) (take used rows) attributes f.attribute k.placed.known g.few);
-      sound = rw a (stand_more (frame_row f) (Standing xs) (take used rows) k.row g.sound);
-      held = λ i. g.held i ∙ ap (λ es. or_else (entry_under i (map (row_entry xs) (take used rows))) (entry_under i es)) (ap (left_part used) k.more ∙ lp)
-          ∙ held_more xs i (frame_row f) (take used rows) (message_part (remaining xs f.next f.stage))
-          ∙ rw (a, gp);
-      past = g.past ∙ ap (left_past used) k.more ∙ lq ∙ sym gq;
-      moved = later_on used n p q f.next g.moved (omega (arith, k.stands.next)) m;
+      few = rw a (few_more (frame_row f) rows attributes f.attribute k.placed.known g.few);
+      sound = rw a (stand_more (frame_row f) (Standing xs) rows k.row g.sound);
+      held = λ i. g.held i ∙ ap (λ es. or_else (entry_under i (map (row_entry xs) rows)) (entry_under i es)) (ap (left_part rows) k.more ∙ lp)
+          ∙ held_more xs i (frame_row f) rows (message_part (remaining xs f.next f.stage))
+          ∙ rw (gp, a);
+      past = g.past ∙ ap (left_past rows) k.more ∙ lq ∙ sym gq;
+      moved = later_on rows after p q f.next g.moved (omega (arith, k.stands.next)) m;
       along = λ w. written_on xs q t f k (g.along w);
-      normal = λ w. rw a (stand_more (frame_row f) (NormalRow xs) (take used rows) (frame_normal xs q t f k (g.along w)) (g.normal w));
+      normal = λ w. rw a (stand_more (frame_row f) (NormalRow xs) rows (frame_normal xs q t f k (g.along w)) (g.normal w));
     }
 
-pub gather_stands : (xs : List ℕ) (p : ℕ) (s : Stage) (used : ℕ) (rows : List AttributeRow) (q : ℕ) (t : Stage) (f : Frame)
-    → Gathering xs p s used rows q t → own_next used (known (next_frame xs q t)) ≡ Some f → Stands xs q f
-gather_stands xs p s used rows q t f g e = (steps xs q t g.good f (own_some used (known (next_frame xs q t)) f e).0).stands
+pub gather_stands : (xs : List ℕ) (p : ℕ) (s : Stage) (rows : List AttributeRow) (q : ℕ) (t : Stage) (f : Frame)
+    → Gathering xs p s rows q t → own_next (length rows) (known (next_frame xs q t)) ≡ Some f → Stands xs q f
+gather_stands xs p s rows q t f g e = (steps xs q t g.good f (own_some (length rows) (known (next_frame xs q t)) f e).0).stands
 
 -- What is left where the next frame is not the target's.
-module _ (xs : List ℕ) (p : ℕ) (s : Stage) (used : ℕ) (rows : List AttributeRow) (q : ℕ) (t : Stage) (g : Gathering xs p s used rows q t) where
-  done_by : left_part used (remaining xs q t) ≡ [] → left_past used (remaining xs q t) ≡ remaining xs q t → (p < length xs → p < q)
-      → Taken xs p s (take used rows) q t
+module _ (xs : List ℕ) (p : ℕ) (s : Stage) (rows : List AttributeRow) (q : ℕ) (t : Stage) (g : Gathering xs p s rows q t) where
+  done_by : left_part rows (remaining xs q t) ≡ [] → left_past rows (remaining xs q t) ≡ remaining xs q t → (p < length xs → p < q)
+      → Taken xs p s rows q t
   done_by a b on = record {
     gathered = record {
-      held = λ i. sym (g.held i ∙ ap (λ es. or_else (entry_under i (map (row_entry xs) (take used rows))) (entry_under i es)) a ∙ or_none _);
+      held = λ i. sym (g.held i ∙ ap (λ es. or_else (entry_under i (map (row_entry xs) rows)) (entry_under i es)) a ∙ or_none _);
       sound = g.sound;
     };
     rest = sym (g.past ∙ b);
@@ -241,66 +238,46 @@ module _ (xs : List ℕ) (p : ℕ) (s : Stage) (used : ℕ) (rows : List Attribu
     onward = on;
   }
 
-pub gather_written : (xs : List ℕ) (p : ℕ) (s : Stage) (used : ℕ) (rows : List AttributeRow) (q : ℕ) (t : Stage) → Gathering xs p s used rows q t → StaysWritten xs p s (take used rows) q t
-gather_written xs p s used rows q t g = record { along = g.along; normal = g.normal }
+  pub gather_written : StaysWritten xs p s rows q t
+  gather_written = record { along = g.along; normal = g.normal }
 
-left_none : (used : ℕ) → (left_part used [] ≡ []) × (left_past used [] ≡ [])
+left_none : (rows : List AttributeRow) → (left_part rows [] ≡ []) × (left_past rows [] ≡ [])
 unfolding own_part past_part message_part later_part
-left_none zero = (refl, refl)
-left_none (suc n) = (refl, refl)
+left_none [] = (refl, refl)
+left_none (r ∷ rows) = (refl, refl)
 
-left_other : (n : ℕ) (e : Entry) (es : List Entry) → e.id ≡ rendering_id
-    → (left_part (suc n) (e ∷ es) ≡ []) × (left_past (suc n) (e ∷ es) ≡ e ∷ es)
+left_other : (r : AttributeRow) (rows : List AttributeRow) (e : Entry) (es : List Entry) → e.id ≡ rendering_id
+    → (left_part (r ∷ rows) (e ∷ es) ≡ []) × (left_past (r ∷ rows) (e ∷ es) ≡ e ∷ es)
 unfolding message_part later_part
-left_other n e es h = rw (eq-eqb e.id rendering_id h) (refl, refl)
+left_other r rows e es h = rw (eq-eqb e.id rendering_id h) (refl, refl)
 
-onward_end : (used p q n : ℕ) → Moved used p q → q ≡ n → p < n → p < q
-onward_end zero p q n m e h = omega arith
-onward_end (suc u) p q n m e h = m
+onward_end : (rows : List AttributeRow) (p q n : ℕ) → Moved rows p q → q ≡ n → p < n → p < q
+onward_end [] p q n m e h = omega arith
+onward_end (r ∷ rows) p q n m e h = m
 
 own_none : (used : ℕ) (f : Frame) → own_next used (Some f) ≡ None → (0 < used) × (f.attribute.id ≡ rendering_id)
 own_none used f e = grind (arith, nat_tests)
 
-pub gather_end : (xs : List ℕ) (p : ℕ) (s : Stage) (used : ℕ) (rows : List AttributeRow) (q : ℕ) (t : Stage)
-    → Gathering xs p s used rows q t → own_next used (known (next_frame xs q t)) ≡ None → Taken xs p s (take used rows) q t
+pub gather_end : (xs : List ℕ) (p : ℕ) (s : Stage) (rows : List AttributeRow) (q : ℕ) (t : Stage)
+    → Gathering xs p s rows q t → own_next (length rows) (known (next_frame xs q t)) ≡ None → Taken xs p s rows q t
 unfolding row_entry
-gather_end xs p s used rows q t g e = by_next (known (next_frame xs q t)) refl e
+gather_end xs p s rows q t g e = by_next (known (next_frame xs q t)) refl e
   where
-    by_next : (o : Option Frame) → known (next_frame xs q t) ≡ o → own_next used o ≡ None → Taken xs p s (take used rows) q t
+    by_next : (o : Option Frame) → known (next_frame xs q t) ≡ o → own_next (length rows) o ≡ None → Taken xs p s rows q t
     by_next None o e =
         let (r, l, _) = ends xs q t g.good o in
-        let (a, b) = left_none used in
-        done_by xs p s used rows q t g (ap (left_part used) r ∙ a) (ap (left_past used) r ∙ b ∙ sym r) (onward_end used p q (length xs) g.moved l)
-    by_next (Some f) o e = other used g (own_none used f e).0 (own_none used f e).1
+        let (a, b) = left_none rows in
+        done_by xs p s rows q t g (ap (left_part rows) r ∙ a) (ap (left_past rows) r ∙ b ∙ sym r) (onward_end rows p q (length xs) g.moved l)
+    by_next (Some f) o e = other rows g (own_none (length rows) f e).0 (own_none (length rows) f e).1
       where
-        other : (n : ℕ) → Gathering xs p s n rows q t → 0 < n → f.attribute.id ≡ rendering_id → Taken xs p s (take n rows) q t
-        other zero g h i = absurd (omega arith)
-        other (suc n) g h i =
+        other : (rows : List AttributeRow) → Gathering xs p s rows q t → 0 < length rows → f.attribute.id ≡ rendering_id → Taken xs p s rows q t
+        other [] g h i = absurd (omega arith)
+        other (r ∷ rows) g h i =
             let k = steps xs q t g.good f o in
-            let (a, b) = left_other n (row_entry xs (frame_row f)) (remaining xs f.next f.stage) i in
-            done_by xs p s (suc n) rows q t g (ap (left_part (suc n)) k.more ∙ a) (ap (left_past (suc n)) k.more ∙ b ∙ sym k.more) (λ _. g.moved)
+            let (a, b) = left_other r rows (row_entry xs (frame_row f)) (remaining xs f.next f.stage) i in
+            done_by xs p s (r ∷ rows) q t g (ap (left_part (r ∷ rows)) k.more ∙ a) (ap (left_past (r ∷ rows)) k.more ∙ b ∙ sym k.more) (λ _. g.moved)
 
--- The row that the index finds.
-module _ (r d : AttributeRow) where
-  pub row_at : (rows : List AttributeRow) (k : ℕ) → Some k ≡ position same_id rows r → Some (get_or rows k d) ≡ row_under r.id rows
-  row_at [] k e = let z : ◌≡◌ {A = ℕ} 0 1 = cc in absurd (omega arith)
-  row_at (q ∷ rows) k e = elim (cases_eq q.id r.id) [
-    | inl t ↦
-        let f : Some k ≡ Some 0 = rw (eq-eqb q.id r.id t) at e in
-        let z : k ≡ 0 = cc in
-        rw (z, eq-eqb q.id r.id t)
-    | inr n ↦
-        rw (ne_eqb q.id r.id n)
-        (deeper (has same_id rows r) (before same_id rows r) refl refl (rw (ne_eqb q.id r.id n) at e) (row_at rows))
-  ]
-    where
-      deeper : (b : Bool) (j : ℕ) → has same_id rows r ≡ b → before same_id rows r ≡ j → Some k ≡ cond b (Some (1 + j)) None
-          → ((j : ℕ) → Some j ≡ position same_id rows r → Some (get_or rows j d) ≡ row_under r.id rows) → Some (get_or (q ∷ rows) k d) ≡ row_under r.id rows
-      deeper true j t u e f =
-          let z : k ≡ 1 + j = cc in
-          rw (z, one-add) (f j (rw (t, u)))
-      deeper false j t u e f = let z : ◌≡◌ {A = ℕ} 0 1 = cc in absurd (omega arith)
-
-  pub row_none : (rows : List AttributeRow) → has same_id rows r ≡ false → None ≡ row_under r.id rows
-  row_none [] e = refl
-  row_none (q ∷ rows) e = let (a, b) = or_parts (eqb q.id r.id) (has same_id rows r) e in rw a (row_none rows b)
+-- The library's search for the first row under an id.
+pub row_first : (i : ℕ) (rows : List AttributeRow) → first_such (λ r. eqb r.id i) rows ≡ row_under i rows
+row_first i [] = refl
+row_first i (r ∷ rows) = rw (row_first i rows) refl

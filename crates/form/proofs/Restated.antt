@@ -1,6 +1,7 @@
 -- What restating answers, at each of its ends.
-use Rattle.std.proofs.Common.{◌≡◌, ℕ, ◌<◌, ◌≤◌, min, true, false, ◌&&◌, leb, List, length, take, Some, None, Ok, Err, sym, refl, ap, arith}
-use Rattle.std.proofs.lemmas.List.{length-take}
+use Rattle.std.proofs.Common.{◌≡◌, ℕ, ◌<◌, ◌≤◌, min, true, false, ◌&&◌, leb, List, length, take, ◌++◌, Option, Some, None, Ok, Err, sym, refl, ap, ◌∙◌, arith}
+use Rattle.std.specs.Option.{ok_or}
+use Rattle.std.proofs.lemmas.List.{length-take, take-append-le}
 use Rattle.std.proofs.lemmas.Bool.{le-leb, lt-leb}
 use Rattle.std.proofs.lemmas.Bool.Decides.{nat_tests}
 use Rattle.source.specs.Content.{source_limit}
@@ -10,14 +11,16 @@ use Rattle.source.specs.declared.refusals.Refusal.{Refusal}
 use Rattle.source.proofs.Outcomes.{err_not_ok, over_lost}
 use Rattle.frame.specs.Frames.{header}
 use Rattle.frame.specs.declared.stages.Stage.TheVariants as stage
-use Rattle.pen.specs.Pen.{Penned}
+use Rattle.pen.specs.declared.Pen.{Pen}
+use Rattle.pen.specs.Pen.{Wrote}
 use Rattle.property.specs.Lists.{list_limit}
 use Rattle.stream.specs.Reading.{Entry, entries_at, entries_of}
 use Rattle.stream.specs.Messages.{Message, message_of, read}
 use Rattle.stream.specs.Writing.{written}
 use Rattle.stream.proofs.Judging.{told}
 use Rattle.form.specs.Targets.{or_none, remaining, Readable}
-use Rattle.form.specs.Restating.{fitted, restated}
+use Rattle.form.specs.Restating.{fitted, restated, Restates}
+use Rattle.form.specs.Wholes.{Fills}
 
 -- A stream that was judged to its end.
 module _ (xs : List ℕ) where
@@ -63,12 +66,28 @@ module _ (xs : List ℕ) where
     unfolding fitted
     form_fits m h e l = rw (← restated_by m h e, fits_both (length (written m)) l)
 
--- What a writer that began at the front has written.
-pub wrote_some : (b w a : List ℕ) (n : ℕ) → Penned b (Some 0) w a (Some n) → (n ≡ length w) × (n ≤ length b) × (take n a ≡ w)
+-- What a pen that began at the front has written.
+pub filled : {p : Pen} {bytes : List ℕ} {q : Pen} → Wrote p bytes q → p.here ≡ Some 0 → Fills p.out.now bytes q.out.now q.here
+filled s e = record { kept = s.kept; told = rw e at s.told }
+
+pub wrote_some : (b w a : List ℕ) (n : ℕ) → Fills b w a (Some n) → (n ≡ length w) × (n ≤ length b) × (take n a ≡ w)
 wrote_some b w a n p =
     let (e, t) = p.told in
     let l : length (take n a) ≡ length w = ap length t in
     (omega arith, omega (arith, length-take n a, p.kept), t)
 
-pub wrote_none : (b w a : List ℕ) → Penned b (Some 0) w a None → length b < length w
+pub wrote_none : (b w a : List ℕ) → Fills b w a None → length b < length w
 wrote_none b w a p = let t = p.told in omega arith
+
+-- What restating answers and leaves, with what stands behind the front that was lent.
+module _ (xs : List ℕ) (m : Message) (e : read xs ≡ Ok m) (b a : List ℕ) where
+  pub fill_answers : (room size : ℕ) → list_limit ≤ room → length b ≡ min size source_limit → (o : Option ℕ) → Fills b (written m) a o
+      → ok_or o (record { reason = FormTooLong; place = 0 }) ≡ restated xs room size
+  fill_answers room size h l (Some n) p =
+      let (k, i, _) = wrote_some b (written m) a n p in ap Ok k ∙ form_fits xs room size m h e (omega (arith, k, i, l))
+  fill_answers room size h l None p = form_long xs room size m h e (omega (arith, wrote_none b (written m) a p, l))
+
+  pub fill_restates : (o : Option ℕ) → Fills b (written m) a o → (behind : List ℕ) (r : Refusal) → Restates xs (a ++ behind) (ok_or o r)
+  fill_restates (Some n) p behind r =
+      let (k, i, t) = wrote_some b (written m) a n p in (m, e, take-append-le n a behind (omega (arith, i, p.kept)) ∙ t)
+  fill_restates None p behind r = tt

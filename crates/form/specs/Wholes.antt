@@ -1,10 +1,10 @@
 -- The whole of what is written, target by target.
-use Rattle.std.specs.Prelude.{◌≡◌, ℕ, ◌<◌, List, [], ◌∷◌, ◌++◌, map}
+use Rattle.std.specs.Prelude.{◌≡◌, ℕ, ◌<◌, List, [], ◌∷◌, ◌++◌, map, length, Some, Option}
 use Rattle.std.specs.List.{flat_map}
 use Rattle.attribute.specs.Table.{rendering_id, version_id}
 use Rattle.frame.specs.Frames.{signature}
 use Rattle.frame.specs.declared.stages.Stage.{Stage}
-use Rattle.pen.specs.Pen.{Wrote}
+use Rattle.pen.specs.Pen.{Told, Wrote}
 use Rattle.pen.specs.declared.Pen.{Pen}
 use Rattle.stream.specs.Reading.{version, Entry}
 use Rattle.stream.specs.Messages.{holding_of, attachment_parts}
@@ -33,3 +33,8 @@ pub record Next (xs : List ℕ) (p : ℕ) (s : Stage) (before : Pen) (q : ℕ) (
   pub rest : remaining xs q t ≡ past_part (remaining xs p s)
   pub good : Readable xs q t
   pub onward : p < q
+
+-- Bytes were written from the front of a slice on, up to r, or do not fit.
+pub record Fills (before bytes after : List ℕ) (r : Option ℕ) : Type 0 where
+  pub kept : length after ≡ length before
+  pub told : Told before (Some 0) bytes after r

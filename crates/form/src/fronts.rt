@@ -27,10 +27,10 @@ pub const CODE_PAGE: Attribute = Attribute {
 };
 
 // The header and the version.
-pub fn write_front(out: &mut [u8], here: Option<usize>)
+pub fn write_front(pen: &mut Pen<'_>)
     ensures { Wrote pen.old front_bytes pen.new }
 {
-    pen(out, here, &FRONT)
+    pen.put(&FRONT);
 }
 
 // The frame of the code page, where there is one.

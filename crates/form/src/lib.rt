@@ -6,10 +6,10 @@ ghost use Rattle.source.specs.Content.{meaning};
 ghost use Rattle.form.specs.Restating.{restated, Restates};
 
 use index::PropertyRow;
-use pen::Pen;
 use property::LIST_LIMIT;
 use source::{Reason, Refusal, SOURCE_LIMIT, Source};
 use stream::judge;
+use wholes::fill;
 
 mod attachments;
 mod attributes;
@@ -53,9 +53,7 @@ pub fn restate<S: Source>(
     }
     judge(source)?;
     let size = out.len().min(SOURCE_LIMIT);
-    let mut pen = Pen::new(&mut out[0..size]);
-    write_form(source, lent, &mut pen);
-    pen.here.ok_or(Refusal {
+    fill(source, lent, &mut out[0..size]).ok_or(Refusal {
         reason: Reason::FormTooLong,
         place: 0,
     })

@@ -1,10 +1,10 @@
 // The rows of one target, in an array that has room for all.
-ghost use Rattle.std.specs.Prelude.{◌≡◌, ◌<◌, ◌≤◌, false, List, [], length, take};
+ghost use Rattle.std.specs.Prelude.{◌≡◌, ◌<◌, ◌≤◌, false, List, [], length, take, ◌==◌, find as first_such};
 ghost use Rattle.index.specs.Rows.{added};
 ghost use Rattle.index.specs.declared.attributes.AttributeRow.{AttributeRow};
 ghost use Rattle.form.specs.Targets.{row_under, same_id};
 
-use index::{AttributeRow, add, find};
+use index::{AttributeRow, add};
 use std::marker::Model;
 
 // More than there are attributes.
@@ -27,7 +27,7 @@ impl Model for Rows {
 
     ghost view = { λ r. take r.used r.rows };
 
-    ghost invariant = { λ r. r.used ≤ 32 };
+    ghost invariant = { λ r. r.used ≤ length r.rows };
 }
 
 impl Rows {
@@ -61,12 +61,12 @@ impl Rows {
         ensures { result ≡ row_under id self.now }
     {
         let rows = &self.rows[0..self.used];
-        let probe = AttributeRow {
-            id,
-            place: 0,
-            size: 0,
-        };
-        let k = find(rows, &probe)?;
-        Some(rows[k])
+        row_in(rows, id)
     }
+}
+
+fn row_in(rows: &[AttributeRow], id: u32) -> Option<AttributeRow>
+    ensures { result ≡ first_such (λ r. r.id == id) rows.now }
+{
+    rows.iter().copied().find(|row| row.id == id)
 }

@@ -7,6 +7,7 @@ ghost use Rattle.property.specs.Lists.{list_limit};
 ghost use Rattle.stream.specs.Messages.{message_of};
 ghost use Rattle.stream.specs.Writing.{written};
 ghost use Rattle.form.specs.Targets.{Readable, remaining};
+ghost use Rattle.form.specs.Wholes.{Fills};
 
 use crate::attachments::write_attachments;
 use crate::fronts::{write_front, write_page};
@@ -31,4 +32,21 @@ pub fn write_form<S: Source>(source: &mut S, lent: &mut [PropertyRow], pen: &mut
     write_page(source, &rows, pen);
     write_message(source, &rows, lent, pen);
     write_attachments(source, at, lent, pen);
+}
+
+// The written form at the front of a slice: how long it is, if it fits.
+pub(crate) fn fill<S: Source>(
+    source: &mut S,
+    lent: &mut [PropertyRow],
+    out: &mut [u8],
+) -> Option<usize>
+    requires fits { length out.old < 2 ^ 32 }
+    requires room { list_limit ≤ length lent.old }
+    requires good { Readable (meaning (S.Source.content source.old)) 6 Version }
+    ensures same { S.Source.content source.new ≡ S.Source.content source.old }
+    ensures value { Fills out.old (written (message_of (remaining (meaning (S.Source.content source.old)) 6 Version))) out.new result }
+{
+    let mut pen = Pen::new(out);
+    write_form(source, lent, &mut pen);
+    pen.here
 }

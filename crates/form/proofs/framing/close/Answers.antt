@@ -1,7 +1,7 @@
 use Rattle.std.proofs.Common.{◌+◌, ◌-◌, sym, ap, ◌∙◌, arith}
 use Rattle.source.specs.Bytes.{part, le}
 use Rattle.scan.proofs.Numbers.{length_part}
-use Rattle.pen.proofs.Pens.{le_two}
+use Rattle.scan.proofs.Numbers.{le_two}
 use Rattle.form.proofs.Framings.{length_framed, closed}
 use Rattle.form.proofs.framing.close.Goals as goal
 

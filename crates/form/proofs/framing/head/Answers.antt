@@ -1,4 +1,4 @@
-use Rattle.pen.proofs.Pens.{le_four}
+use Rattle.scan.proofs.Numbers.{le_four}
 use Rattle.form.proofs.framing.head.Goals as goal
 
 pub returns : goal.returns

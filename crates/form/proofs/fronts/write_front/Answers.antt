@@ -5,4 +5,4 @@ use Rattle.form.proofs.fronts.write_front.Goals as goal
 
 pub returns : goal.returns
 unfolding write_entry attribute_of le
-returns c = c.pen.ensures
+returns c = c.put.ensures

@@ -1,35 +1,37 @@
-use Rattle.std.proofs.Common.{◌≡◌, ◌-◌, sym, ◌∙◌, subst, arith}
+use Rattle.std.proofs.Common.{sym, ◌∙◌, subst}
 use Rattle.source.specs.Content.{meaning}
 use Rattle.pen.proofs.Pens.{◌▷◌}
-use Rattle.form.specs.Targets.{Readable, remaining}
+use Rattle.form.specs.Targets.{remaining}
 use Rattle.form.specs.Wholes.{Rendered}
 use Rattle.form.proofs.Forms.{page_told, form_is, rest_rendered}
 use Rattle.form.proofs.wholes.write_form.Goals as goal
 
-pub write_attachments-requires : goal.write_attachments-requires
-write_attachments-requires g c =
-    let t = c.gather-target.ensures in
-    let p = c.write_page-page.ensures in
-    let m = c.write_message-message.ensures in
-    let same = m.same ∙ p.same ∙ t.same in
-    record {
-      fits = omega (arith, c.write_message-message.auto.out, c.write_page-page.auto.out, c.write_front-front.auto.out, c.requires.fits);
-      room = omega (arith, c.write_message-message.auto.lent, c.requires.room);
-      good = subst (λ l. Readable (meaning l) c.gather-target.result.place c.gather-target.result.stage) (sym same) t.value.after;
-      rendered = subst (λ l. Rendered (remaining (meaning l) c.gather-target.result.place c.gather-target.result.stage)) (sym same)
-          (rest_rendered _ _ _ _ c.requires.good t.value);
-    }
+pub write_message-requires-clause-fits : goal.write_message-requires-clause-fits
+write_message-requires-clause-fits g c =
+    let t = c.gather-rows.ensures in
+    let (n, k, _) = page_told _ _ _ _ c.requires.good t.value in
+    let p = (rw t.same at c.write_page.ensures.value) n k in
+    rw (p.kept, c.write_front.ensures.kept) c.requires.fits
 
-pub returns : goal.returns
-returns g c =
-    let z : c.gather-target.result.used - 0 ≡ c.gather-target.result.used = omega arith in
-    let t = c.gather-target.ensures in
-    let p = c.write_page-page.ensures in
-    let m = c.write_message-message.ensures in
-    let a = c.write_attachments.ensures in
+pub write_attachments-requires-clause-fits : goal.write_attachments-requires-clause-fits
+write_attachments-requires-clause-fits g c =
+    let t = c.gather-rows.ensures in
+    let (n, k, _) = page_told _ _ _ _ c.requires.good t.value in
+    let p = (rw t.same at c.write_page.ensures.value) n k in
+    rw (c.write_message.ensures.value.kept, p.kept, c.write_front.ensures.kept) c.requires.fits
+
+pub write_attachments-requires-clause-rendered : goal.write_attachments-requires-clause-rendered
+write_attachments-requires-clause-rendered g c =
+    let t = c.gather-rows.ensures in
+    subst (λ l. Rendered (remaining (meaning l) c.gather-rows.new.at.place c.gather-rows.new.at.stage))
+    (sym (c.write_message.ensures.same ∙ c.write_page.ensures.same ∙ t.same)) (rest_rendered _ _ _ _ c.requires.good t.value)
+
+pub returns-clause-value : goal.returns-clause-value
+returns-clause-value g c =
+    let t = c.gather-rows.ensures in
+    let p = c.write_page.ensures in
+    let m = c.write_message.ensures in
     let e = form_is (meaning (g.S.Source.content c.args.source.now)) _ _ _ c.requires.good t.value in
     let (n, k, _) = page_told (meaning (g.S.Source.content c.args.source.now)) _ _ _ c.requires.good t.value in
-    record {
-      same = a.same ∙ m.same ∙ p.same ∙ t.same;
-      value = rw (← e) (c.write_front-front.ensures ▷ ((rw (t.same, z) at p.value) n k ▷ ((rw (p.same ∙ t.same, z) at m.value) ▷ (rw (m.same ∙ p.same ∙ t.same) at a.value))));
-    }
+    rw (← e)
+    (c.write_front.ensures ▷ ((rw t.same at p.value) n k ▷ ((rw (p.same ∙ t.same) at m.value) ▷ (rw (m.same ∙ p.same ∙ t.same) at c.write_attachments.ensures.value))))
