@@ -1,4 +1,6 @@
 // Bytes of a source as people read them: shortened, and escaped.
+ghost use Rattle.std.specs.Prelude.{◌≤◌};
+
 use source::Source;
 use std::io;
 use std::io::Write;
@@ -7,7 +9,9 @@ use std::io::Write;
 const SHOWN: usize = 64;
 
 // As many of the `size` bytes from `place` on as are shown, and how many those are.
-fn front<S: Source>(source: &mut S, place: usize, size: usize) -> ([u8; SHOWN], usize) {
+fn front<S: Source>(source: &mut S, place: usize, size: usize) -> ([u8; SHOWN], usize)
+    ensures { result.1 ≤ 64 }
+{
     let mut bytes = [0u8; SHOWN];
     let n = size.min(SHOWN);
     match source.fetch(place, &mut bytes[0..n]) {
@@ -42,7 +46,7 @@ pub fn print_text8<S: Source, W: Write>(
     let text = size.saturating_sub(1);
     let (bytes, n) = front(source, place, text);
     write!(out, "\"")?;
-    for byte in bytes.iter().take(n) {
+    for byte in &bytes[..n] {
         print_char(out, *byte)?;
     }
     write!(out, "\"")?;
@@ -66,13 +70,18 @@ pub fn print_text16<S: Source, W: Write>(
     let text = size.saturating_sub(2);
     let (bytes, n) = front(source, place, text);
     write!(out, "\"")?;
-    for i in 0..SHOWN / 2 {
-        if 2 * i + 1 < n {
-            print_unit(out, u16::from_le_bytes([bytes[2 * i], bytes[2 * i + 1]]))?;
-        }
+    for pair in bytes[..n].chunks_exact(2) {
+        print_unit(out, u16::from_le_bytes([pair[0], pair[1]]))?;
     }
     write!(out, "\"")?;
     print_rest(out, n, text)
+}
+
+pub fn print_bytes<W: Write>(out: &mut W, bytes: &[u8]) -> io::Result<()> {
+    for byte in bytes {
+        write!(out, "{byte:02X}")?;
+    }
+    Ok(())
 }
 
 pub fn print_hex<S: Source, W: Write>(
@@ -85,9 +94,6 @@ pub fn print_hex<S: Source, W: Write>(
     if n == 0 {
         write!(out, "-")?;
     }
-    for byte in bytes.iter().take(n) {
-        let b = *byte;
-        write!(out, "{b:02X}")?;
-    }
+    print_bytes(out, &bytes[..n])?;
     print_rest(out, n, size)
 }
