@@ -8,12 +8,12 @@ use std::borrow::CowSlice;
 use std::hash::{Hash, Hasher};
 
 #[derive(PartialEq, Eq, Drop)]
-pub struct Form<'a> {
+pub(crate) struct Form<'a> {
     bytes: CowSlice<'a, u8>,
 }
 
 impl<'a> Form<'a> {
-    pub fn lent(bytes: &'a [u8]) -> Form<'a>
+    pub(crate) fn lent(bytes: &'a [u8]) -> Form<'a>
         ensures { cow_slice_items result.bytes ≡ bytes.now }
     {
         Form {
@@ -21,7 +21,7 @@ impl<'a> Form<'a> {
         }
     }
 
-    pub fn owned(bytes: Vec<u8>) -> Form<'a>
+    pub(crate) fn owned(bytes: Vec<u8>) -> Form<'a>
         ensures { cow_slice_items result.bytes ≡ bytes.items }
     {
         Form {

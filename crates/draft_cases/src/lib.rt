@@ -33,10 +33,6 @@ mod tests {
         Draft::new(area, 0).load(work, &mut source).map_err(number)
     }
 
-    fn same(a: &[u8], b: &[u8]) -> bool {
-        a == b
-    }
-
     // One byte more than the form takes, which is cleared with the work memory.
     #[test]
     fn begins(rt: HostRuntime) {
@@ -44,9 +40,9 @@ mod tests {
         let mut bytes = [7u8; 41];
         let mut rows = [BLANK_ROW; 1024];
         assert_eq!(rt; begin(&mut area, &mut bytes, &mut rows), Ok(()));
-        assert!(rt; same(&area[0..40], BLANK));
+        assert_eq!(rt; &area[0..40], BLANK.as_slice());
         assert_eq!(rt; area[40], 0);
-        assert!(rt; same(&bytes, &[0; 41]));
+        assert_eq!(rt; bytes, [0; 41]);
     }
 
     // The form does not fit, there are too few work bytes, or too few rows.
@@ -60,8 +56,8 @@ mod tests {
         assert_eq!(rt; begin(&mut area, &mut bytes, &mut rows), Err(17));
         assert_eq!(rt; begin(&mut area, &mut few, &mut rows), Err(1));
         assert_eq!(rt; begin(&mut area, &mut bytes, &mut short), Err(1));
-        assert!(rt; same(&area, &[9; 39]));
-        assert!(rt; same(&bytes, &[0; 39]));
+        assert_eq!(rt; area, [9; 39]);
+        assert_eq!(rt; bytes, [0; 39]);
     }
 
     // A stream that is loaded, one for which the area is too small, and one that is cut short.
@@ -72,10 +68,10 @@ mod tests {
         let mut small = [9u8; 39];
         let mut bytes = [7u8; 41];
         assert_eq!(rt; load(&mut area, &mut bytes, &stream), Ok(()));
-        assert!(rt; same(&area[0..40], &stream));
+        assert_eq!(rt; &area[0..40], &stream[..]);
         assert_eq!(rt; load(&mut small, &mut bytes, &stream), Err(17));
         assert_eq!(rt; load(&mut area, &mut bytes, &stream[0..39]), Err(3));
-        assert!(rt; same(&area[0..40], &stream));
-        assert!(rt; same(&small, &[9; 39]));
+        assert_eq!(rt; &area[0..40], &stream[..]);
+        assert_eq!(rt; small, [9; 39]);
     }
 }
