@@ -5,48 +5,33 @@
 mod tests {
     use attribute::Rule;
     use contents::{admits, write_normal};
-    use source::{Held, Source};
+    use source::{Held, Refusal, Source};
 
-    fn admitted(rule: Rule, bytes: &[u8]) -> bool {
-        match Held::new(bytes) {
-            Ok(mut source) => match admits(&mut source, rule, 0, bytes.len()) {
-                Ok(answer) => answer,
-                Err(_) => false,
-            },
-            Err(_) => false,
-        }
+    fn admitted(rule: Rule, bytes: &[u8]) -> Result<bool, Refusal> {
+        let mut source = Held::new(bytes)?;
+        admits(&mut source, rule, 0, bytes.len())
     }
 
     fn refused(rule: Rule, cases: &[&[u8]]) -> bool {
-        for bytes in cases {
-            if admitted(rule, *bytes) {
-                return false;
-            }
-        }
-        true
+        cases
+            .iter()
+            .all(|bytes| admitted(rule, *bytes) == Ok(false))
     }
 
     fn accepted(rule: Rule, cases: &[&[u8]]) -> bool {
-        for bytes in cases {
-            if !admitted(rule, *bytes) {
-                return false;
-            }
-        }
-        true
+        cases.iter().all(|bytes| admitted(rule, *bytes) == Ok(true))
     }
 
     // Whether the normal data of `bytes` are `normal`.
     fn becomes(rule: Rule, bytes: &[u8], normal: &[u8]) -> bool {
         let mut out = [0u8; 64];
-        match Held::new(bytes) {
-            Ok(mut source) => {
-                let size = bytes.len();
-                match write_normal(&mut source, rule, 0, size, &mut out, Some(0)) {
-                    Some(end) => end <= 64 && &out[0..end] == normal,
-                    None => false,
-                }
-            }
-            Err(_) => false,
+        let Ok(mut source) = Held::new(bytes) else {
+            return false;
+        };
+        let size = bytes.len();
+        match write_normal(&mut source, rule, 0, size, &mut out, Some(0)) {
+            Some(end) => out.get(0..end) == Some(normal),
+            None => false,
         }
     }
 

@@ -1,4 +1,2 @@
-pub mod Vectors
 pub mod Forms
 pub mod Groups
-pub mod Trees

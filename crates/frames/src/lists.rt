@@ -1,5 +1,5 @@
 // The properties of a list or a table, a line each.
-use crate::shown::{print_hex, print_text8, print_text16};
+use crate::shown::{print_bytes, print_hex, print_text8, print_text16};
 use index::{PropertyKey, PropertyRow};
 use property::{Kind, Shape, read_property, shape_of};
 use scan::{u16_at, u32_at};
@@ -27,26 +27,12 @@ fn type_name(number: u16) -> &'static str {
     }
 }
 
-fn print_bytes<W: Write>(out: &mut W, bytes: &[u8]) -> io::Result<()> {
-    for byte in bytes {
-        let b = *byte;
-        write!(out, "{b:02X}")?;
-    }
-    Ok(())
-}
-
 fn print_units<W: Write>(out: &mut W, text: &[u8]) -> io::Result<()> {
     for pair in text.chunks_exact(2) {
-        if let [low, high] = pair {
-            match u16::from_le_bytes([*low, *high]) {
-                0 => {}
-                unit if unit < 127 && unit >= 32 => write!(
-                    out,
-                    "{}",
-                    char::from((unit & 0x7F) as u8)
-                )?,
-                unit => write!(out, "\\u{unit:04X}")?,
-            }
+        match u16::from_le_bytes([pair[0], pair[1]]) {
+            0 => {}
+            unit @ 32..=126 => write!(out, "{}", char::from(unit as u8))?,
+            unit => write!(out, "\\u{unit:04X}")?,
         }
     }
     Ok(())
@@ -173,9 +159,10 @@ fn print_property<S: Source, W: Write>(
     }
     let mut place = first;
     for _ in 0..count {
-        if place < row.next {
-            place = print_value(out, source, row.number, shape.kind, place)?;
+        if place >= row.next {
+            break;
         }
+        place = print_value(out, source, row.number, shape.kind, place)?;
     }
     writeln!(out, "")
 }
@@ -191,13 +178,11 @@ pub fn print_list<S: Source, W: Write>(
     writeln!(out, "{count} properties")?;
     let mut here = place.saturating_add(4);
     for _ in 0..count {
-        match read_property(source, here, end) {
-            Ok(row) => {
-                print_property(out, source, &row)?;
-                here = row.next;
-            }
-            Err(_) => break,
-        }
+        let Ok(row) = read_property(source, here, end) else {
+            break;
+        };
+        print_property(out, source, &row)?;
+        here = row.next;
     }
     Ok(here)
 }
@@ -213,10 +198,11 @@ pub fn print_table<S: Source, W: Write>(
     writeln!(out, "  {count} rows")?;
     let mut here = place.saturating_add(4);
     for row in 0..count {
-        if here < end {
-            write!(out, "  row {row}: ")?;
-            here = print_list(out, source, here, end)?;
+        if here >= end {
+            break;
         }
+        write!(out, "  row {row}: ")?;
+        here = print_list(out, source, here, end)?;
     }
     Ok(())
 }

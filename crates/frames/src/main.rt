@@ -90,18 +90,21 @@ fn print_frames<S: Source, W: Write>(source: &mut S, out: &mut W) -> io::Result<
 }
 
 fn print_stream<W: Write>(out: &mut W, bytes: &[u8]) -> io::Result<()> {
-    match Held::new(bytes) {
-        Ok(mut source) => print_frames(&mut source, out),
-        Err(_) => writeln!(out, "too long"),
-    }
+    let Ok(mut source) = Held::new(bytes) else {
+        return writeln!(out, "too long");
+    };
+    print_frames(&mut source, out)
 }
 
 // Lists each file that is named, or standard input for `-` and where none is.
 fn main(rt: HostRuntime) -> io::Result<()> {
     let mut out = BufWriter::new(rt.alloc(), rt.stdout())?;
-    let mut files: usize = 0;
-    for name in env::args(&rt)?.skip(1) {
-        files = files.saturating_add(1);
+    let mut names = env::args(&rt)?.skip(1).peekable();
+    if names.peek().is_none() {
+        let bytes = read_past(&mut rt.stdin(), SOURCE_LIMIT, rt.alloc())?;
+        print_stream(&mut out, bytes.as_slice())?;
+    }
+    for name in names {
         let bytes = if name.as_str() == "-" {
             read_past(&mut rt.stdin(), SOURCE_LIMIT, rt.alloc())?
         } else {
@@ -112,10 +115,6 @@ fn main(rt: HostRuntime) -> io::Result<()> {
             )?
         };
         writeln!(out, "{name}:")?;
-        print_stream(&mut out, bytes.as_slice())?;
-    }
-    if files == 0 {
-        let bytes = read_past(&mut rt.stdin(), SOURCE_LIMIT, rt.alloc())?;
         print_stream(&mut out, bytes.as_slice())?;
     }
     out.flush()

@@ -6,13 +6,17 @@ use std::io::Write;
 // The most bytes that are shown of a value.
 const SHOWN: usize = 64;
 
-// As many of the `size` bytes from `place` on as are shown, and how many those are.
-fn front<S: Source>(source: &mut S, place: usize, size: usize) -> ([u8; SHOWN], usize) {
-    let mut bytes = [0u8; SHOWN];
-    let n = size.min(SHOWN);
-    match source.fetch(place, &mut bytes[0..n]) {
-        Ok(()) => (bytes, n),
-        Err(_) => (bytes, 0),
+// As many of the `size` bytes from `place` on as are shown.
+fn front<'a, S: Source>(
+    source: &mut S,
+    place: usize,
+    size: usize,
+    buffer: &'a mut [u8; SHOWN],
+) -> &'a [u8] {
+    let bytes = &mut buffer[..size.min(SHOWN)];
+    match source.fetch(place, bytes) {
+        Ok(()) => bytes,
+        Err(_) => &[],
     }
 }
 
@@ -40,18 +44,19 @@ pub fn print_text8<S: Source, W: Write>(
     size: usize,
 ) -> io::Result<()> {
     let text = size.saturating_sub(1);
-    let (bytes, n) = front(source, place, text);
+    let mut buffer = [0u8; SHOWN];
+    let bytes = front(source, place, text, &mut buffer);
     write!(out, "\"")?;
-    for byte in bytes.iter().take(n) {
+    for byte in bytes {
         print_char(out, *byte)?;
     }
     write!(out, "\"")?;
-    print_rest(out, n, text)
+    print_rest(out, bytes.len(), text)
 }
 
 fn print_unit<W: Write>(out: &mut W, unit: u16) -> io::Result<()> {
     if unit < 128 {
-        return print_char(out, (unit & 0x7F) as u8);
+        return print_char(out, unit as u8);
     }
     write!(out, "\\u{unit:04X}")
 }
@@ -64,15 +69,21 @@ pub fn print_text16<S: Source, W: Write>(
     size: usize,
 ) -> io::Result<()> {
     let text = size.saturating_sub(2);
-    let (bytes, n) = front(source, place, text);
+    let mut buffer = [0u8; SHOWN];
+    let bytes = front(source, place, text, &mut buffer);
     write!(out, "\"")?;
-    for i in 0..SHOWN / 2 {
-        if 2 * i + 1 < n {
-            print_unit(out, u16::from_le_bytes([bytes[2 * i], bytes[2 * i + 1]]))?;
-        }
+    for pair in bytes.chunks_exact(2) {
+        print_unit(out, u16::from_le_bytes([pair[0], pair[1]]))?;
     }
     write!(out, "\"")?;
-    print_rest(out, n, text)
+    print_rest(out, bytes.len(), text)
+}
+
+pub fn print_bytes<W: Write>(out: &mut W, bytes: &[u8]) -> io::Result<()> {
+    for byte in bytes {
+        write!(out, "{byte:02X}")?;
+    }
+    Ok(())
 }
 
 pub fn print_hex<S: Source, W: Write>(
@@ -81,13 +92,11 @@ pub fn print_hex<S: Source, W: Write>(
     place: usize,
     size: usize,
 ) -> io::Result<()> {
-    let (bytes, n) = front(source, place, size);
-    if n == 0 {
+    let mut buffer = [0u8; SHOWN];
+    let bytes = front(source, place, size, &mut buffer);
+    if bytes.is_empty() {
         write!(out, "-")?;
     }
-    for byte in bytes.iter().take(n) {
-        let b = *byte;
-        write!(out, "{b:02X}")?;
-    }
-    print_rest(out, n, size)
+    print_bytes(out, bytes)?;
+    print_rest(out, bytes.len(), size)
 }

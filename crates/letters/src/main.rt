@@ -13,6 +13,24 @@ use std::fs::File;
 use std::io::{BufWriter, Write};
 use std::{env, io};
 
+// Why a stream is in no group.
+enum Ungrouped {
+    Refused(Refusal),
+    OutOfMemory(AllocError),
+}
+
+impl From<Refusal> for Ungrouped {
+    fn from(refusal: Refusal) -> Ungrouped {
+        Ungrouped::Refused(refusal)
+    }
+}
+
+impl From<AllocError> for Ungrouped {
+    fn from(error: AllocError) -> Ungrouped {
+        Ungrouped::OutOfMemory(error)
+    }
+}
+
 // Room for the form of most streams of so many bytes: a form is longer only by what a class may grow.
 fn usual_room(size: usize) -> usize {
     size.saturating_add(64).min(SOURCE_LIMIT)
@@ -26,93 +44,89 @@ fn vector_for(heap: Global, bytes: &[u8], room: usize) -> Result<Vec<u8>, AllocE
     Ok(out)
 }
 
-// The form of the message that the bytes carry, where it fits the room.
-fn form_within(
+// The letters so far, and the rows in which the properties of each are gathered.
+#[derive(Drop)]
+struct Sorter {
     heap: Global,
-    rows: &mut [PropertyRow],
-    bytes: &[u8],
-    room: usize,
-) -> Result<Result<Vec<u8>, Refusal>, AllocError> {
-    let mut out = vector_for(heap, bytes, room)?;
-    match Held::new(bytes) {
-        Ok(mut source) => match restate(&mut source, rows, out.as_mut_slice()) {
-            Ok(n) => {
-                out.truncate(n);
-                if out.capacity() / 2 > n {
-                    out.shrink_to_fit();
-                }
-                Ok(Ok(out))
-            }
-            Err(refusal) => Ok(Err(refusal)),
-        },
-        Err(_) => Ok(Err(Refusal {
-            reason: Reason::FormTooLong,
-            place: 0,
-        })),
-    }
+    letters: Correspondence,
+    rows: Vec<PropertyRow>,
 }
 
-// The form of the message that the bytes carry: in the usual room, and where it is longer, in the largest.
-fn form_of(
-    heap: Global,
-    rows: &mut [PropertyRow],
-    bytes: &[u8],
-) -> Result<Result<Vec<u8>, Refusal>, AllocError> {
-    match form_within(heap, rows, bytes, usual_room(bytes.len()))? {
-        Err(refusal) => match refusal.reason {
-            Reason::FormTooLong => form_within(heap, rows, bytes, SOURCE_LIMIT),
-            _ => Ok(Err(refusal)),
-        },
-        restated => Ok(restated),
+impl Sorter {
+    fn new(heap: Global) -> Result<Sorter, AllocError> {
+        Ok(Sorter {
+            heap,
+            letters: Correspondence::new(heap),
+            rows: Vec::from_elem(heap, BLANK_ROW, LIST_LIMIT as usize)?,
+        })
+    }
+
+    // The form of the message that the bytes carry, where it fits the room.
+    fn form_within(&mut self, bytes: &[u8], room: usize) -> Result<Vec<u8>, Ungrouped> {
+        let mut out = vector_for(self.heap, bytes, room)?;
+        let mut source = Held::new(bytes)?;
+        let n = restate(&mut source, self.rows.as_mut_slice(), out.as_mut_slice())?;
+        out.truncate(n);
+        if out.capacity() / 2 > n {
+            out.shrink_to_fit();
+        }
+        Ok(out)
+    }
+
+    // The form of the message that the bytes carry: in the usual room, and where it is longer, in the largest.
+    fn form_of(&mut self, bytes: &[u8]) -> Result<Vec<u8>, Ungrouped> {
+        match self.form_within(bytes, usual_room(bytes.len())) {
+            Err(
+                Ungrouped::Refused(
+                    Refusal {
+                        reason: Reason::FormTooLong,
+                        place: _,
+                    },
+                ),
+            ) => self.form_within(bytes, SOURCE_LIMIT),
+            formed => formed,
+        }
+    }
+
+    // The number of the group of the message that the bytes carry, from 1 on.
+    fn group_of(&mut self, bytes: &[u8]) -> Result<usize, Ungrouped> {
+        let form = self.form_of(bytes)?;
+        let before = self.letters.add_owned(form)?;
+        Ok(before.saturating_add(1))
     }
 }
 
 fn print_letter<W: Write>(
     out: &mut W,
-    heap: Global,
-    letters: &mut Correspondence,
-    rows: &mut [PropertyRow],
+    sorter: &mut Sorter,
     bytes: &[u8],
     name: &str,
 ) -> io::Result<()> {
     if bytes.len() > SOURCE_LIMIT {
         return writeln!(out, "too long {name}");
     }
-    match form_of(heap, rows, bytes)? {
-        Ok(form) => {
-            let before = letters.add_owned(form)?;
-            let group = before.saturating_add(1);
-            writeln!(out, "{group} {name}")
-        }
-        Err(refusal) => writeln!(out, "{refusal} {name}"),
+    match sorter.group_of(bytes) {
+        Ok(group) => writeln!(out, "{group} {name}"),
+        Err(Ungrouped::Refused(refusal)) => writeln!(out, "{refusal} {name}"),
+        Err(Ungrouped::OutOfMemory(error)) => Err(error.into()),
     }
 }
 
 // All of a file, or more than a stream may have.
 fn read_file(file: &mut File, heap: Global) -> io::Result<Vec<u8>> {
-    let size = match file.metadata() {
-        Ok(data) => data.len().min(SOURCE_LIMIT as u64),
-        Err(_) => 0,
-    };
-    read_expected(file, size as usize, SOURCE_LIMIT, heap)
+    let size = file.metadata().map_or(0, |data| data.len());
+    let expected = size.min(SOURCE_LIMIT as u64) as usize;
+    read_expected(file, expected, SOURCE_LIMIT, heap)
 }
 
 fn main(rt: HostRuntime) -> io::Result<()> {
     let mut out = BufWriter::new(rt.alloc(), rt.stdout())?;
-    let mut letters = Correspondence::new(rt.alloc());
-    let mut rows = Vec::from_elem(rt.alloc(), BLANK_ROW, LIST_LIMIT as usize)?;
+    let mut sorter = Sorter::new(rt.alloc())?;
     for name in env::args(&rt)?.skip(1) {
         let bytes = read_file(&mut File::open(&rt, name.as_str())?, rt.alloc())?;
-        print_letter(
-            &mut out,
-            rt.alloc(),
-            &mut letters,
-            rows.as_mut_slice(),
-            bytes.as_slice(),
-            name.as_str(),
-        )?;
+        print_letter(&mut out, &mut sorter, bytes.as_slice(), name.as_str())?;
     }
-    let count = letters.count();
+    let count = sorter.letters.count();
     writeln!(out, "{count} different messages")?;
     out.flush()
 }

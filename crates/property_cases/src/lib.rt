@@ -87,19 +87,13 @@ mod tests {
         assert_eq!(rt; as_list(&bytes, 0, 631), refused(Reason::FieldEnd, 4));
     }
 
-    // The type of two bytes, to each property of eight.
-    fn type_each(list: &mut [u8]) {
-        for i in 0..1025usize {
-            if 4 + 8 * i < list.len() {
-                list[4 + 8 * i] = 2;
-            }
-        }
-    }
-
     #[test]
     fn as_many_as_a_list_can_have(rt: HostRuntime) {
         let mut bytes = [0u8; 8204];
-        type_each(&mut bytes);
+        // The type of two bytes, to each property of eight.
+        for property in bytes[4..8204].chunks_exact_mut(8) {
+            property[0] = 2;
+        }
         bytes[1] = 4;
         assert_eq!(rt; as_list(&bytes, 0, 8196), Ok(()));
         bytes[0] = 1;
