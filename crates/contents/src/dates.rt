@@ -7,6 +7,7 @@ ghost use Rattle.contents.specs.Options.{then};
 
 use crate::fixed::exactly;
 use source::{Refusal, Source};
+use std::fmt;
 
 #[derive(Clone, Copy, PartialEq, Eq, Debug)]
 pub struct Date {
@@ -16,6 +17,24 @@ pub struct Date {
     pub hour: u16,
     pub minute: u16,
     pub second: u16,
+}
+
+// As `2002-12-24 10:00:00`.
+impl fmt::Display for Date {
+    fn fmt<W: fmt::Write>(&self, f: &mut fmt::Formatter<W>) -> fmt::Result {
+        let Date {
+            year,
+            month,
+            day,
+            hour,
+            minute,
+            second,
+        } = *self;
+        write!(
+            f,
+            "{year:04}-{month:02}-{day:02} {hour:02}:{minute:02}:{second:02}"
+        )
+    }
 }
 
 fn is_leap(year: u16) -> bool

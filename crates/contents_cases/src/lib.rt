@@ -5,6 +5,7 @@
 mod tests {
     use attribute::Rule;
     use contents::{admits, write_normal};
+    use pen::Pen;
     use source::{Held, Refusal, Source};
 
     fn admitted(rule: Rule, bytes: &[u8]) -> Result<bool, Refusal> {
@@ -28,8 +29,9 @@ mod tests {
         let Ok(mut source) = Held::new(bytes) else {
             return false;
         };
-        let size = bytes.len();
-        match write_normal(&mut source, rule, 0, size, &mut out, Some(0)) {
+        let mut pen = Pen::new(&mut out);
+        write_normal(&mut source, rule, 0, bytes.len(), &mut pen);
+        match pen.here {
             Some(end) => out.get(0..end) == Some(normal),
             None => false,
         }

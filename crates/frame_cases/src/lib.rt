@@ -3,7 +3,7 @@
 
 #[cfg(test)]
 mod tests {
-    use frame::{Stage, header, next_frame};
+    use frame::{Cursor, Frame, header, next_frame};
     use source::{Held, Join, Refusal, Source, Window};
     use std::alloc::{AllocError, Global};
     use std::test::Fail;
@@ -58,12 +58,10 @@ mod tests {
     // How many frames a stream has, or its first refusal.
     fn count<S: Source>(source: &mut S) -> Result<usize, Refusal> {
         header(source)?;
-        let mut place = 6;
-        let mut stage = Stage::Version;
+        let mut at = Cursor::FIRST;
         let mut count: usize = 0;
-        while let Some(frame) = next_frame(source, place, stage)? {
-            place = frame.next;
-            stage = frame.stage;
+        while let Some(frame) = next_frame(source, at)? {
+            at = frame.behind();
             count += 1;
         }
         Ok(count)

@@ -2,7 +2,7 @@
 use crate::shown::{print_bytes, print_hex, print_text8, print_text16};
 use index::{PropertyKey, PropertyRow};
 use property::{Kind, Shape, read_property, shape_of};
-use scan::{u16_at, u32_at};
+use scan::Number;
 use source::Source;
 use std::io;
 use std::io::Write;
@@ -58,11 +58,11 @@ fn print_key<W: Write>(out: &mut W, key: &PropertyKey) -> io::Result<()> {
 // The number of `width` bytes at `place`, with its sign.
 fn signed_at<S: Source>(source: &mut S, place: usize, width: u8) -> i64 {
     match width {
-        2 => i64::from(u16_at(source, place).unwrap_or(0).cast_signed()),
-        4 => i64::from(u32_at(source, place).unwrap_or(0).cast_signed()),
+        2 => i64::from(u16::at(source, place).unwrap_or(0).cast_signed()),
+        4 => i64::from(u32::at(source, place).unwrap_or(0).cast_signed()),
         _ => {
-            let low = u64::from(u32_at(source, place).unwrap_or(0));
-            let high = u64::from(u32_at(source, place.saturating_add(4)).unwrap_or(0));
+            let low = u64::from(u32::at(source, place).unwrap_or(0));
+            let high = u64::from(u32::at(source, place.saturating_add(4)).unwrap_or(0));
             ((high << 32) | low).cast_signed()
         }
     }
@@ -81,7 +81,7 @@ fn print_fixed<S: Source, W: Write>(
             write!(out, " {value}")
         }
         0x000B => {
-            let truth = u16_at(source, place).unwrap_or(0) != 0;
+            let truth = u16::at(source, place).unwrap_or(0) != 0;
             write!(out, " {truth}")
         }
         _ => {
@@ -103,7 +103,7 @@ fn print_sized<S: Source, W: Write>(
     kind: Kind,
     place: usize,
 ) -> io::Result<usize> {
-    let size = u32_at(source, place).unwrap_or(0) as usize;
+    let size = u32::at(source, place).unwrap_or(0) as usize;
     let bytes = place.saturating_add(4);
     write!(out, " ")?;
     match kind {
@@ -138,7 +138,7 @@ fn print_value<S: Source, W: Write>(
 fn count_at<S: Source>(source: &mut S, shape: Shape, place: usize) -> (u32, usize) {
     match shape.kind {
         Kind::Fixed(_) | Kind::YesNo if !shape.several => (1, place),
-        _ => (u32_at(source, place).unwrap_or(0), place.saturating_add(4)),
+        _ => (u32::at(source, place).unwrap_or(0), place.saturating_add(4)),
     }
 }
 
@@ -174,7 +174,7 @@ pub fn print_list<S: Source, W: Write>(
     place: usize,
     end: usize,
 ) -> io::Result<usize> {
-    let count = u32_at(source, place).unwrap_or(0);
+    let count = u32::at(source, place).unwrap_or(0);
     writeln!(out, "{count} properties")?;
     let mut here = place.saturating_add(4);
     for _ in 0..count {
@@ -194,7 +194,7 @@ pub fn print_table<S: Source, W: Write>(
     place: usize,
     end: usize,
 ) -> io::Result<()> {
-    let count = u32_at(source, place).unwrap_or(0);
+    let count = u32::at(source, place).unwrap_or(0);
     writeln!(out, "  {count} rows")?;
     let mut here = place.saturating_add(4);
     for row in 0..count {

@@ -8,7 +8,7 @@ mod shown;
 use crate::lists::{print_list, print_table};
 use crate::meanings::print_meaning;
 use attribute::{Attribute, Rule, name_of};
-use frame::{Frame, Stage, header};
+use frame::{Cursor, Frame, HEAD_SIZE, Stage, header};
 use input::read_past;
 use source::{Held, SOURCE_LIMIT, Source};
 use std::fs::File;
@@ -48,9 +48,8 @@ fn print_owner<W: Write>(out: &mut W, stage: Stage) -> io::Result<()> {
     }
 }
 
-// The data of a frame begin behind its level, id and length.
 fn print_data<S: Source, W: Write>(out: &mut W, source: &mut S, frame: Frame) -> io::Result<()> {
-    let base = frame.place.saturating_add(9);
+    let base = frame.place.saturating_add(HEAD_SIZE);
     let end = base.saturating_add(frame.size);
     match frame.attribute.rule {
         Rule::Recipients => print_table(out, source, base, end),
@@ -71,18 +70,16 @@ fn print_frames<S: Source, W: Write>(source: &mut S, out: &mut W) -> io::Result<
     if let Err(refusal) = header(source) {
         return writeln!(out, "{refusal}");
     }
-    let mut place = 6;
-    let mut stage = Stage::Version;
+    let mut at = Cursor::FIRST;
     let mut count: usize = 0;
     loop {
-        match next_judged(source, place, stage) {
+        match next_judged(source, at) {
             Err(refusal) => return writeln!(out, "{refusal}"),
             Ok(None) => return writeln!(out, "{count} frames"),
             Ok(Some(frame)) => {
                 print_frame(out, frame)?;
                 print_data(out, source, frame)?;
-                place = frame.next;
-                stage = frame.stage;
+                at = frame.behind();
                 count += 1;
             }
         }

@@ -2,7 +2,7 @@
 use crate::shown::{print_hex, print_text8};
 use attribute::Rule;
 use contents::{Date, Status, class_at, code_page_at, date_at, importance_at, status_at, truth_at};
-use scan::{u16_at, u32_at};
+use scan::Number;
 use source::Source;
 use std::io;
 use std::io::Write;
@@ -21,18 +21,7 @@ fn day_name(weekday: u16) -> &'static str {
 
 fn print_date<W: Write>(out: &mut W, date: Date) -> io::Result<()> {
     let name = day_name(date.weekday());
-    let Date {
-        year,
-        month,
-        day,
-        hour,
-        minute,
-        second,
-    } = date;
-    write!(
-        out,
-        "date {year:04}-{month:02}-{day:02} {hour:02}:{minute:02}:{second:02} {name}"
-    )
+    write!(out, "date {date} {name}")
 }
 
 fn print_flag<W: Write>(out: &mut W, set: bool, name: &str) -> io::Result<()> {
@@ -71,17 +60,17 @@ fn print_rendering<S: Source, W: Write>(
     source: &mut S,
     place: usize,
 ) -> io::Result<()> {
-    let kind = u16_at(source, place).unwrap_or(0);
-    let position = u32_at(source, place.saturating_add(2))
+    let kind = u16::at(source, place).unwrap_or(0);
+    let position = u32::at(source, place.saturating_add(2))
         .unwrap_or(0)
         .cast_signed();
-    let width = u16_at(source, place.saturating_add(6))
+    let width = u16::at(source, place.saturating_add(6))
         .unwrap_or(0)
         .cast_signed();
-    let height = u16_at(source, place.saturating_add(8))
+    let height = u16::at(source, place.saturating_add(8))
         .unwrap_or(0)
         .cast_signed();
-    let flags = u32_at(source, place.saturating_add(10)).unwrap_or(0);
+    let flags = u32::at(source, place.saturating_add(10)).unwrap_or(0);
     write!(
         out,
         "rendering type {kind} position {position} width {width} height {height} flags {flags}"
