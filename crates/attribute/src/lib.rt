@@ -35,6 +35,7 @@ pub enum Rule {
 #[derive(Clone, Copy)]
 pub struct Attribute {
     pub id: u32,
+    // The byte of a frame's head: 1 or 2 in the table. A type of the two would take less than callers may pass.
     pub level: u8,
     pub rule: Rule,
 }

@@ -70,6 +70,7 @@ fn spells(text: &[u8], pair: &Pair) -> bool
         || is_joined(text, b"Microsoft Mail v3.0", pair.attribute)
 }
 
+// Pairs go by number, which is what programs print and the definitions count by.
 // The number of the first pair of `table` that a text means, from 1.
 fn number_in(table: &[Pair], text: &[u8]) -> Option<usize>
     ensures { result ≡ pair_from text.now (map spelled table.now) 1 }

@@ -29,7 +29,7 @@ use source::{Refusal, Source};
 pub use statuses::{Status, status_at};
 pub use writing::write_normal;
 
-// Whether the rule admits the `size` bytes from `place` on.
+// Whether the rule admits the `size` bytes from `place` on. A match on the rules, which are closed: none can be missed.
 pub fn admits<S: Source>(
     source: &mut S,
     rule: Rule,

@@ -1,4 +1,6 @@
 // The written form of what a stream carries.
+// What its parts require stays in clauses: that a slice is below 2^32 bytes only closing a frame needs, 1,024 rows exactly
+// would be more than is asked, and that rows stand in a source is a fact of two values, of which the source is lent anew.
 #![tactic(auto)]
 
 ghost use Rattle.std.specs.Prelude.{◌≡◌, length};

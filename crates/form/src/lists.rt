@@ -60,7 +60,8 @@ pub fn write_properties<S: Source>(
     pen_close(pen, start, attribute.level, attribute.id);
 }
 
-// The frame of the table of recipients, where there is one that is not empty.
+// The frame of the table of recipients, where there is one that is not empty; beside `write_properties`, since what is
+// counted, read and written differs, and a common function would take all three.
 pub fn write_recipients<S: Source>(
     source: &mut S,
     rows: &Rows,

@@ -5,6 +5,7 @@ ghost use Rattle.index.specs.Limits.{name_limit};
 // The most bytes that a name can have.
 pub const NAME_LIMIT: usize = 512;
 
+// A buffer and a length, since rows are copied within lent memory and nothing is allocated.
 #[derive(Clone, Copy)]
 pub struct Name {
     bytes: [u8; NAME_LIMIT],

@@ -5,7 +5,8 @@ ghost use Rattle.index.specs.SameKeys.{alike_by_key};
 
 use crate::{PropertyKey, Row};
 
-// A property's key, the number of its type, where its values begin, and the place behind them.
+// A property's key, the number of its type (not its kind, since a blank row has none), where its values begin, and the
+// place behind them.
 #[derive(Clone, Copy)]
 pub struct PropertyRow {
     pub key: PropertyKey,

@@ -40,7 +40,7 @@ fn add_at<S: Source>(
     })
 }
 
-// The index of `count` properties.
+// The index of `count` properties; a loop of its own, since rows go along besides the place.
 #[tactic(auto, using(crate::proofs::Carrying::front_none))]
 fn rows_of<S: Source>(
     source: &mut S,

@@ -22,6 +22,7 @@ pub struct Shape {
 // Added to the number of a type, it gives the type of several values.
 const SEVERAL: u16 = 0x1000;
 
+// A lookup and no `TryFrom`: that there is no such type is no error of its own.
 fn single_kind(number: u16) -> Option<Kind>
     ensures { result ≡ single_kind number }
 {

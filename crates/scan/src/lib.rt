@@ -67,6 +67,7 @@ pub fn scan<S: Source, A: Automaton>(
             place: 0,
         });
     }
+    // By places and not by `step_by`: what a chunk adds is told by how much is done, and the last one is shorter.
     let mut buffer = [0u8; CHUNK];
     let mut state = start;
     let mut done: usize = 0;

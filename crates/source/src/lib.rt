@@ -28,6 +28,7 @@ pub trait Source {
         ensures bound { result ≤ source_limit }
         ensures octets { Octets (meaning (content self.now)) };
 
+    // It takes the source as `&mut`, since reading may move a file: so every reader has to say that the bytes stay.
     // Fills the buffer with the bytes from `place` on, or refuses and leaves it where the source ends too early.
     fn fetch(&mut self, place: usize, buffer: &mut [u8]) -> Result<(), Refusal>
         ensures same { content self.new ≡ content self.old }

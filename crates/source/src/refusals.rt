@@ -27,7 +27,7 @@ pub enum Reason {
 }
 
 impl Reason {
-    // The number by which the refusal is reported, 1 to 17.
+    // The number by which the refusal is reported, 1 to 17; no `as`, since two reasons share one.
     pub fn number(self) -> u8
         ensures { result ≡ number self }
     {
