@@ -6,7 +6,7 @@ ghost use Rattle.editing.specs.Targets.{may_put};
 ghost use Rattle.amend.specs.Changes.{TouchMeans, RowingMeans, AttachingMeans, AmendmentMeans};
 ghost use Rattle.draft.specs.Checks.{NamedFor, put_amended};
 
-use amend::{Amendment, Attaching, Listing, Rowing, Slot, Touch};
+use amend::{Amendment, Change, Listing, Slot, Touch};
 use attribute::{Attribute, Rule};
 use message::Target;
 
@@ -23,34 +23,34 @@ pub(crate) fn to_target(target: Target, touch: Touch) -> Amendment
         Target::Message => Amendment {
             page: false,
             own: touch,
-            rows: Rowing::AsTheyAre,
-            attachments: Attaching::AsBefore,
+            rows: Change::Kept,
+            attachments: Change::Kept,
         },
-        Target::Row(number) => to_rows(Rowing::Changed(number, touch.listing)),
-        Target::Attachment(number) => to_attachments(Attaching::Changed(number, touch)),
+        Target::Row(number) => to_rows(Change::Changed(number, touch.listing)),
+        Target::Attachment(number) => to_attachments(Change::Changed(number, touch)),
     }
 }
 
 // Nothing but what is done to the rows.
-pub(crate) fn to_rows(rowing: Rowing) -> Amendment
+pub(crate) fn to_rows(rowing: Change<Listing>) -> Amendment
     ensures { (ys : List ℕ) (s : spec.Rowing) → RowingMeans ys rowing s → AmendmentMeans ys result (spec.to_rows s) }
 {
     Amendment {
         page: false,
         own: UNTOUCHED,
         rows: rowing,
-        attachments: Attaching::AsBefore,
+        attachments: Change::Kept,
     }
 }
 
 // Nothing but what is done to the attachments.
-pub(crate) fn to_attachments(attaching: Attaching) -> Amendment
+pub(crate) fn to_attachments(attaching: Change<Touch>) -> Amendment
     ensures { (ys : List ℕ) (s : spec.Attaching) → AttachingMeans ys attaching s → AmendmentMeans ys result (spec.to_attachments s) }
 {
     Amendment {
         page: false,
         own: UNTOUCHED,
-        rows: Rowing::AsTheyAre,
+        rows: Change::Kept,
         attachments: attaching,
     }
 }
@@ -64,8 +64,8 @@ pub(crate) fn to_put(target: Target, attribute: Attribute) -> Amendment
         Rule::CodePage => Amendment {
             page: true,
             own: UNTOUCHED,
-            rows: Rowing::AsTheyAre,
-            attachments: Attaching::AsBefore,
+            rows: Change::Kept,
+            attachments: Change::Kept,
         },
         _ => to_target(
             target,

@@ -18,7 +18,7 @@ ghost use Rattle.draft.specs.Checks.{edit_of, put_by, Checked};
 use crate::amending::{to_attachments, to_put, to_rows, to_target};
 use crate::edits::Edit;
 use crate::given::{contents_given, key_given, property_given};
-use amend::{Amendment, Attaching, Listing, Rowing, Slot, Touch};
+use amend::{Amendment, Change, Listing, Slot, Touch};
 use attribute::Rule;
 use frame::ATTACHMENT_LIMIT;
 use index::{PropertyKey, PropertyRow};
@@ -84,16 +84,16 @@ pub(crate) fn drop_attribute<S: Source>(
 {
     target_there(source, target)?;
     let attribute = attribute_for(target, id, Usage::Drop)?;
-    match attribute_row(source, target, attribute) {
-        Some(_) => Ok(to_target(
-            target,
-            Touch {
-                slot: Slot::Dropped(id),
-                listing: Listing::Same,
-            },
-        )),
-        None => Err(MISSING),
-    }
+    let Some(_) = attribute_row(source, target, attribute) else {
+        return Err(MISSING);
+    };
+    Ok(to_target(
+        target,
+        Touch {
+            slot: Slot::Dropped(id),
+            listing: Listing::Same,
+        },
+    ))
 }
 
 // How many properties a target has, and whether one has the key.
@@ -115,16 +115,9 @@ fn keys_of<S: Source>(
     ensures value { (h : Holding) → holding (message_in (meaning (S.Source.content source.old))) target ≡ Some h
         → (result.count ≡ length h.properties) × (result.found ≡ has_key (key_of key.now) h.properties) }
 {
-    match properties(source, target, rows) {
-        Some(count) => Keys {
-            count,
-            found: find_key(&rows[0..count], key).is_some(),
-        },
-        None => Keys {
-            count: 0,
-            found: false,
-        },
-    }
+    let count = properties(source, target, rows).unwrap_or(0);
+    let found = find_key(&rows[0..count], key).is_some();
+    Keys { count, found }
 }
 
 pub(crate) fn put_property<S: Source>(
@@ -194,7 +187,7 @@ pub(crate) fn add_row<S: Source>(source: &mut S) -> Result<Amendment, Refusal>
     if count >= ROW_LIMIT as usize {
         return Err(LIMIT);
     }
-    Ok(to_rows(Rowing::Added))
+    Ok(to_rows(Change::Added))
 }
 
 pub(crate) fn add_attachment<S: Source>(source: &mut S, bytes: &[u8]) -> Result<Amendment, Refusal>
@@ -209,7 +202,7 @@ pub(crate) fn add_attachment<S: Source>(source: &mut S, bytes: &[u8]) -> Result<
     if count >= ATTACHMENT_LIMIT as usize {
         return Err(LIMIT);
     }
-    Ok(to_attachments(Attaching::Added))
+    Ok(to_attachments(Change::Added))
 }
 
 pub(crate) fn remove_row<S: Source>(source: &mut S, number: usize) -> Result<Amendment, Refusal>
@@ -220,7 +213,7 @@ pub(crate) fn remove_row<S: Source>(source: &mut S, number: usize) -> Result<Ame
         (message_in (meaning (S.Source.content source.old))) result }
 {
     target_there(source, Target::Row(number))?;
-    Ok(to_rows(Rowing::Removed(number)))
+    Ok(to_rows(Change::Removed(number)))
 }
 
 pub(crate) fn remove_attachment<S: Source>(
@@ -234,7 +227,7 @@ pub(crate) fn remove_attachment<S: Source>(
         (message_in (meaning (S.Source.content source.old))) result }
 {
     target_there(source, Target::Attachment(number))?;
-    Ok(to_attachments(Attaching::Removed(number)))
+    Ok(to_attachments(Change::Removed(number)))
 }
 
 // The amendment that an edit asks for, or what refuses it.
