@@ -1,2 +1,3 @@
 pub mod Forms
 pub mod Groups
+pub mod Hashed
