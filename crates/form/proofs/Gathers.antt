@@ -1,10 +1,10 @@
 -- Rows of a target that are gathered frame by frame.
-use Rattle.std.proofs.Common.{◌≡◌, ℕ, ◌+◌, ◌<◌, ◌≤◌, Bool, true, false, cond, ◌&&◌, ◌||◌, eqb, ltb, List, [], ◌∷◌, ◌++◌, map, length, get_or, take, Some, None, Option, sym, refl, ap, ◌∙◌, inl, inr, one-add, arith}
+use Rattle.std.proofs.Common.{◌≡◌, ℕ, ◌+◌, ◌<◌, ◌≤◌, Bool, true, false, cond, ◌&&◌, ◌||◌, eqb, ltb, List, [], ◌∷◌, ◌++◌, map, length, Some, None, Option, sym, refl, ap, ◌∙◌, inl, inr, arith}
 use Rattle.std.specs.Prelude.{find as first_such}
 use Rattle.std.specs.List.{AllByRecursion}
-use Rattle.std.proofs.lemmas.List.{length-append, length-take}
+use Rattle.std.proofs.lemmas.List.{length-append}
 use Rattle.std.proofs.ByRecursion.{All-push}
-use Rattle.std.proofs.lemmas.Bool.{cases_Bool, cases_eq, both_ways, lt-ltb, eq-eqb, ne_eqb, or_parts}
+use Rattle.std.proofs.lemmas.Bool.{cases_Bool, cases_eq, both_ways, lt-ltb, eq-eqb, ne_eqb}
 use Rattle.std.proofs.lemmas.Bool.Decides.{nat_tests}
 use Rattle.attribute.specs.Table.{attributes, find, attribute_of, rendering_id}
 use Rattle.attribute.specs.declared.Attribute.{Attribute}
@@ -14,7 +14,7 @@ use Rattle.frame.specs.declared.stages.Stage.{Stage}
 use Rattle.frame.proofs.Standing.{Stands}
 use Rattle.contents.specs.Writing.{known}
 use Rattle.index.specs.declared.attributes.AttributeRow.{AttributeRow}
-use Rattle.index.specs.Rows.{has, before, position, added}
+use Rattle.index.specs.Rows.{has, added}
 use Rattle.stream.specs.Reading.{Entry}
 use Rattle.stream.specs.Messages.{or_else, message_part}
 use Rattle.form.specs.Targets.{remaining, Readable, own_part, later_part, past_part, row_entry, Standing, frame_row, own_next, entry_under, row_under, same_id, AsWritten, NormalRow, Taken, StaysWritten}
