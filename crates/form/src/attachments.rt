@@ -9,13 +9,12 @@ ghost use Rattle.form.specs.Targets.{Standing, Readable, remaining};
 ghost use Rattle.form.specs.Holdings.{attachment_bytes};
 ghost use Rattle.form.specs.Wholes.{Rendered, Next, all_attached};
 
-use crate::Rows;
 use crate::attributes::{write_attribute, write_attributes};
 use crate::lists::write_properties;
 use crate::targets::gather;
 use attribute::{ATT_ATTACHMENT_PROPERTIES, ATT_RENDERING, Attribute, Rule, all_attributes};
 use frame::Cursor;
-use index::PropertyRow;
+use index::{AttributeRow, PropertyRow};
 use pen::Pen;
 use source::Source;
 
@@ -45,7 +44,7 @@ pub fn attachment_table() -> &'static [Attribute]
 // An attachment's rendering, attributes and properties.
 pub fn write_attachment<S: Source>(
     source: &mut S,
-    rows: &Rows,
+    rows: &[AttributeRow],
     lent: &mut [PropertyRow],
     pen: &mut Pen<'_>,
 )
@@ -77,7 +76,7 @@ pub fn write_next<S: Source>(
     ensures value { Next (meaning (S.Source.content source.old)) at.old.place at.old.stage pen.old at.new.place at.new.stage pen.new }
 {
     let rows = gather(source, at);
-    write_attachment(source, &rows, lent, pen);
+    write_attachment(source, rows.as_slice(), lent, pen);
 }
 
 // The attachments from a place on.

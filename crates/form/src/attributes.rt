@@ -11,8 +11,8 @@ ghost use Rattle.form.specs.Framing.{framed};
 ghost use Rattle.form.specs.Targets.{Standing};
 ghost use Rattle.form.specs.Holdings.{Plain, contents_in, attribute_bytes};
 
-use crate::Rows;
 use crate::framing::{pen_close, pen_open};
+use crate::row_under;
 use attribute::Attribute;
 use contents::write_normal;
 use index::AttributeRow;
@@ -41,7 +41,7 @@ pub fn write_row<S: Source>(
 // The frame of one attribute, where there is a row under its id.
 pub fn write_attribute<S: Source>(
     source: &mut S,
-    rows: &Rows,
+    rows: &[AttributeRow],
     attribute: Attribute,
     pen: &mut Pen<'_>,
 )
@@ -53,7 +53,7 @@ pub fn write_attribute<S: Source>(
         (attribute_bytes (meaning (S.Source.content source.old)) rows.now attribute)
         pen.new }
 {
-    if let Some(row) = rows.under(attribute.id) {
+    if let Some(row) = row_under(rows, attribute.id) {
         write_row(source, attribute, row, pen);
     }
 }
@@ -61,7 +61,7 @@ pub fn write_attribute<S: Source>(
 // The frames of a table's attributes, in the table's order.
 pub fn write_attributes<S: Source>(
     source: &mut S,
-    rows: &Rows,
+    rows: &[AttributeRow],
     table: &[Attribute],
     pen: &mut Pen<'_>,
 )

@@ -9,9 +9,10 @@ ghost use Rattle.form.specs.Targets.{Standing};
 ghost use Rattle.form.specs.Holdings.{told_in, page_bytes};
 ghost use Rattle.form.specs.Wholes.{front_bytes};
 
-use crate::Rows;
 use crate::attributes::write_row;
+use crate::row_under;
 use attribute::{ATT_CODE_PAGE, Attribute, Rule};
+use index::AttributeRow;
 use pen::Pen;
 use source::Source;
 
@@ -34,14 +35,14 @@ pub fn write_front(pen: &mut Pen<'_>)
 }
 
 // The frame of the code page, where there is one.
-pub fn write_page<S: Source>(source: &mut S, rows: &Rows, pen: &mut Pen<'_>)
+pub fn write_page<S: Source>(source: &mut S, rows: &[AttributeRow], pen: &mut Pen<'_>)
     requires fits { length pen.old.out.now < 2 ^ 32 }
     requires sound { AllByRecursion (Standing (meaning (S.Source.content source.old))) rows.now }
     ensures same { S.Source.content source.new ≡ S.Source.content source.old }
     ensures value { (n : ℕ) → told_in as_primary code_page_id (meaning (S.Source.content source.old)) rows.now ≡ Some n
         → Wrote pen.old (page_bytes (meaning (S.Source.content source.old)) rows.now) pen.new }
 {
-    if let Some(row) = rows.under(ATT_CODE_PAGE) {
+    if let Some(row) = row_under(rows, ATT_CODE_PAGE) {
         write_row(source, CODE_PAGE, row, pen);
     }
 }

@@ -32,7 +32,7 @@ pub use framing::{pen_close, pen_open};
 pub use fronts::{CODE_PAGE, write_front, write_page};
 pub use lists::{write_properties, write_recipients};
 pub use messages::{MESSAGE_PROPERTIES, message_table, write_message};
-pub use row_list::Rows;
+pub use row_list::{Rows, row_under};
 pub use targets::gather;
 pub use wholes::write_form;
 

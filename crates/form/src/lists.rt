@@ -9,10 +9,10 @@ ghost use Rattle.stream.specs.Reading.{properties};
 ghost use Rattle.form.specs.Targets.{Standing};
 ghost use Rattle.form.specs.Holdings.{Natured, list_bytes, table_bytes};
 
-use crate::Rows;
 use crate::framing::{pen_close, pen_open};
+use crate::row_under;
 use attribute::{ATT_RECIPIENTS, Attribute};
-use index::PropertyRow;
+use index::{AttributeRow, PropertyRow};
 use listform::{write_list, write_table};
 use pen::Pen;
 use scan::Number;
@@ -33,7 +33,7 @@ fn is_empty<S: Source>(source: &mut S, place: usize) -> bool
 // The frame of the list of properties under an attribute's id, where there is one that is not empty.
 pub fn write_properties<S: Source>(
     source: &mut S,
-    rows: &Rows,
+    rows: &[AttributeRow],
     attribute: Attribute,
     lent: &mut [PropertyRow],
     pen: &mut Pen<'_>,
@@ -48,7 +48,7 @@ pub fn write_properties<S: Source>(
         pen.new }
 {
     let _total = source.len();
-    let Some(row) = rows.under(attribute.id) else {
+    let Some(row) = row_under(rows, attribute.id) else {
         return;
     };
     let empty = is_empty(source, row.place);
@@ -64,7 +64,7 @@ pub fn write_properties<S: Source>(
 // counted, read and written differs, and a common function would take all three.
 pub fn write_recipients<S: Source>(
     source: &mut S,
-    rows: &Rows,
+    rows: &[AttributeRow],
     lent: &mut [PropertyRow],
     pen: &mut Pen<'_>,
 )
@@ -77,7 +77,7 @@ pub fn write_recipients<S: Source>(
         pen.new }
 {
     let _total = source.len();
-    let Some(row) = rows.under(ATT_RECIPIENTS) else {
+    let Some(row) = row_under(rows, ATT_RECIPIENTS) else {
         return;
     };
     let empty = is_empty(source, row.place);

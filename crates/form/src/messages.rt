@@ -8,11 +8,10 @@ ghost use Rattle.property.specs.Lists.{list_limit};
 ghost use Rattle.form.specs.Targets.{Standing};
 ghost use Rattle.form.specs.Holdings.{message_bytes};
 
-use crate::Rows;
 use crate::attributes::write_attributes;
 use crate::lists::{write_properties, write_recipients};
 use attribute::{ATT_MESSAGE_PROPERTIES, Attribute, Rule, all_attributes};
-use index::PropertyRow;
+use index::{AttributeRow, PropertyRow};
 use pen::Pen;
 use source::Source;
 
@@ -34,7 +33,7 @@ pub fn message_table() -> &'static [Attribute]
 // The message's attributes, recipients and properties.
 pub fn write_message<S: Source>(
     source: &mut S,
-    rows: &Rows,
+    rows: &[AttributeRow],
     lent: &mut [PropertyRow],
     pen: &mut Pen<'_>,
 )

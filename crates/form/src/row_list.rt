@@ -56,17 +56,23 @@ impl Rows {
         }
     }
 
-    // The row under an id.
-    pub fn under(&self, id: u32) -> Option<AttributeRow>
-        ensures { result ≡ row_under id self.now }
+    pub fn as_slice(&self) -> &[AttributeRow]
+        ensures { result.now ≡ self.now }
     {
-        row_in(&self.rows[0..self.used], id)
+        &self.rows[0..self.used]
     }
 }
 
-// The first of `rows` under an id.
-fn row_in(rows: &[AttributeRow], id: u32) -> Option<AttributeRow>
+// The search in the library's words; `row_under` says it in those of rows.
+fn first_row(rows: &[AttributeRow], id: u32) -> Option<AttributeRow>
     ensures { result ≡ first_such (λ r. r.id == id) rows.now }
 {
     rows.iter().copied().find(|row| row.id == id)
+}
+
+// The row under an id.
+pub fn row_under(rows: &[AttributeRow], id: u32) -> Option<AttributeRow>
+    ensures { result ≡ row_under id rows.now }
+{
+    first_row(rows, id)
 }

@@ -29,8 +29,9 @@ pub fn write_form<S: Source>(source: &mut S, lent: &mut [PropertyRow], pen: &mut
     write_front(pen);
     let mut at = Cursor::FIRST;
     let rows = gather(source, &mut at);
-    write_page(source, &rows, pen);
-    write_message(source, &rows, lent, pen);
+    let own = rows.as_slice();
+    write_page(source, own, pen);
+    write_message(source, own, lent, pen);
     write_attachments(source, at, lent, pen);
 }
 

@@ -10,14 +10,14 @@ pub write_message-requires-clause-fits : goal.write_message-requires-clause-fits
 write_message-requires-clause-fits g c =
     let t = c.gather-rows.ensures in
     let (n, k, _) = page_told _ _ _ _ c.requires.good t.value in
-    let p = (rw t.same at c.write_page.ensures.value) n k in
+    let p = (rw (t.same, c.as_slice-own.ensures) at c.write_page.ensures.value) n k in
     rw (p.kept, c.write_front.ensures.kept) c.requires.fits
 
 pub write_attachments-requires-clause-fits : goal.write_attachments-requires-clause-fits
 write_attachments-requires-clause-fits g c =
     let t = c.gather-rows.ensures in
     let (n, k, _) = page_told _ _ _ _ c.requires.good t.value in
-    let p = (rw t.same at c.write_page.ensures.value) n k in
+    let p = (rw (t.same, c.as_slice-own.ensures) at c.write_page.ensures.value) n k in
     rw (c.write_message.ensures.value.kept, p.kept, c.write_front.ensures.kept) c.requires.fits
 
 pub write_attachments-requires-clause-rendered : goal.write_attachments-requires-clause-rendered
@@ -34,4 +34,4 @@ returns-clause-value g c =
     let e = form_is (meaning (g.S.Source.content c.args.source.now)) _ _ _ c.requires.good t.value in
     let (n, k, _) = page_told (meaning (g.S.Source.content c.args.source.now)) _ _ _ c.requires.good t.value in
     rw (← e)
-    (c.write_front.ensures ▷ ((rw t.same at p.value) n k ▷ ((rw (p.same ∙ t.same) at m.value) ▷ (rw (m.same ∙ p.same ∙ t.same) at c.write_attachments.ensures.value))))
+    (c.write_front.ensures ▷ ((rw (t.same, c.as_slice-own.ensures) at p.value) n k ▷ ((rw (p.same ∙ t.same, c.as_slice-own.ensures) at m.value) ▷ (rw (m.same ∙ p.same ∙ t.same) at c.write_attachments.ensures.value))))
