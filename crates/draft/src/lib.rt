@@ -4,7 +4,7 @@
 ghost use Rattle.std.specs.Prelude.{◌≡◌, ◌-◌, ◌≤◌, ◌++◌, length, take, replicate, IfOk};
 ghost use Rattle.source.specs.Bytes.{le};
 ghost use Rattle.scan.specs.Scans.{checksum};
-ghost use Rattle.pen.specs.Pen.{Wrote};
+ghost use Rattle.form.specs.Wholes.{Fills};
 ghost use Rattle.source.specs.Content.{meaning};
 ghost use Rattle.source.specs.declared.refusals.Reason.TheVariants.{ShortWork};
 ghost use Rattle.source.specs.Outcome.{over, need};
@@ -96,13 +96,16 @@ fn sum_of(number: u32) -> u16
     u16::from(a) + u16::from(b) + u16::from(c) + u16::from(d)
 }
 
-fn pen_blank(pen: &mut Pen<'_>, primary: u32)
-    ensures { Wrote pen.old (written (blank primary)) pen.new }
+// A blank form at the front of a slice: how long it is, if it fits.
+fn pen_blank(out: &mut [u8], primary: u32) -> Option<usize>
+    ensures { Fills out.old (written (blank primary)) out.new result }
 {
+    let mut pen = Pen::new(out);
     pen.put(FRONT);
     pen.put_le(primary);
     pen.put_le(0u32);
     pen.put_le(sum_of(primary));
+    pen.here
 }
 
 // Writes a blank form within the first `room` of the work bytes.
@@ -116,9 +119,7 @@ fn begin_within(
     ensures form { Front (begun (memory bytes.old rows.now) room primary) bytes.new }
 {
     enough(bytes, rows, room)?;
-    let mut pen = Pen::new(&mut bytes[0..room]);
-    pen_blank(&mut pen, primary);
-    pen.here.ok_or(Refusal {
+    pen_blank(&mut bytes[0..room], primary).ok_or(Refusal {
         reason: Reason::FormTooLong,
         place: 0,
     })

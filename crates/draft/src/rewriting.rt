@@ -1,10 +1,12 @@
 // An edit as a restating in which one part is changed.
-ghost use Rattle.std.specs.Prelude.{◌≡◌, ◌≤◌, length};
+ghost use Rattle.std.specs.Prelude.{◌≡◌, ◌^◌, ◌<◌, ◌≤◌, length};
 ghost use Rattle.source.specs.Content.{meaning, source_limit};
 ghost use Rattle.source.specs.Outcome.{over};
 ghost use Rattle.frame.specs.declared.stages.Stage.TheVariants.{Version};
 ghost use Rattle.property.specs.Lists.{list_limit};
+ghost use Rattle.stream.specs.Writing.{written};
 ghost use Rattle.form.specs.Targets.{Readable};
+ghost use Rattle.form.specs.Wholes.{Fills};
 ghost use Rattle.editing.specs.Amendments as spec;
 ghost use Rattle.editing.specs.Amendments.{amended};
 ghost use Rattle.amend.specs.Changes.{AmendmentMeans};
@@ -33,6 +35,27 @@ fn put_by<'a>(edit: Edit<'a>) -> &'a [u8]
     }
 }
 
+// The amended form at the front of a slice: how long it is, if it fits.
+fn fill<S: Source, T: Source>(
+    source: &mut S,
+    input: &mut T,
+    amendment: Amendment,
+    rows: &mut [PropertyRow],
+    out: &mut [u8],
+) -> Option<usize>
+    requires fits { length out.old < 2 ^ 32 }
+    requires room { list_limit ≤ length rows.old }
+    requires good { Readable (meaning (S.Source.content source.old)) 6 Version }
+    requires meant { (s : spec.Amendment) × AmendmentMeans (meaning (T.Source.content input.old)) amendment s }
+    ensures same { S.Source.content source.new ≡ S.Source.content source.old }
+    ensures value { (s : spec.Amendment) → AmendmentMeans (meaning (T.Source.content input.old)) amendment s
+        → Fills out.old (written (amended s (message_in (meaning (S.Source.content source.old))))) out.new result }
+{
+    let mut pen = Pen::new(out);
+    amend(source, input, amendment, rows, &mut pen);
+    pen.here
+}
+
 // Writes the amended form within the first `room` of the work bytes.
 fn rewrite<S: Source>(
     source: &mut S,
@@ -54,9 +77,7 @@ fn rewrite<S: Source>(
 {
     let most = room.min(SOURCE_LIMIT);
     let mut input = Held::new(put)?;
-    let mut pen = Pen::new(&mut bytes[0..most]);
-    amend(source, &mut input, amendment, rows, &mut pen);
-    pen.here.ok_or(Refusal {
+    fill(source, &mut input, amendment, rows, &mut bytes[0..most]).ok_or(Refusal {
         reason: Reason::FormTooLong,
         place: 0,
     })
