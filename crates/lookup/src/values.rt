@@ -39,10 +39,7 @@ fn fixed_at<S: Source>(
 {
     let size = usize::from(width);
     if !several {
-        if number == 0 {
-            return Some(Span { place, size });
-        }
-        return None;
+        return (number == 0).then_some(Span { place, size });
     }
     let _total = source.len();
     let count = u32::at(source, place).ok()?;
@@ -63,6 +60,7 @@ fn value_end<S: Source>(source: &mut S, place: usize) -> Option<usize>
     Some(place + COUNT_SIZE + padded(size as usize))
 }
 
+// The walk is that of `list_start`; one function for both would have to tell of any reading in its contract, which is no plainer.
 // Where the value with a number stands, of values from `place` on, each behind its size.
 fn value_start<S: Source>(source: &mut S, place: usize, number: usize) -> usize
     ensures same { S.Source.content source.new ≡ S.Source.content source.old }

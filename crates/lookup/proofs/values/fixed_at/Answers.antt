@@ -1,4 +1,5 @@
-use Rattle.std.proofs.Common.{◌≡◌, ◌+◌, ◌*◌, ◌≤◌, Some, sym, refl, ap, ◌∙◌, mul-le-mul, arith}
+use Rattle.std.proofs.Common.{◌≡◌, ◌+◌, ◌*◌, ◌≤◌, Some, sym, ap, ◌∙◌, inl, inr, mul-le-mul, arith}
+use Rattle.std.proofs.lemmas.Bool.{cases_eq, eq-eqb, ne_eqb}
 use Rattle.source.specs.Bytes.{part}
 use Rattle.source.specs.Content.{meaning}
 use Rattle.property.specs.Fields.{padded}
@@ -9,28 +10,17 @@ use Rattle.lookup.proofs.Passing.{nth_past}
 use Rattle.lookup.proofs.Valued.{fixed_only, fixed_all, fixed_nth}
 use Rattle.lookup.proofs.values.fixed_at.Goals as goal
 
-pub returns-then-number-eq0 : goal.returns-then-number-eq0
-returns-then-number-eq0 g c =
+pub returns-then-not-several-clause-value : goal.returns-then-not-several-clause-value
+returns-then-not-several-clause-value g c end start k a l e =
     let xs = meaning (g.S.Source.content c.args.source.now) in
-    record {
-      same = refl;
-      value = λ end start k a l e.
-          let (u, v, _) = fixed_only xs end start l k c.args.width c.args.place a c.args.several c.if-not-several.true e in (
-            omega (arith, u, c.from-size.ensures),
-            ap (nth a.what) c.if-number-eq0.true ∙ v ∙ ap (λ n. Some (value k (part xs c.args.place n))) (sym c.from-size.ensures),
-          );
-    }
-
-pub returns-then-not-several : goal.returns-then-not-several
-returns-then-not-several g c =
-    let xs = meaning (g.S.Source.content c.args.source.now) in
-    record {
-      same = refl;
-      value = λ end start k a l e.
-          let (_, _, n) = fixed_only xs end start l k c.args.width c.args.place a c.args.several c.if-not-several.true e in
-          let other = c.if-number-eq0.false in
-          nth_past a.what c.args.number (omega arith);
-    }
+    let (u, v, n) = fixed_only xs end start l k c.args.width c.args.place a c.args.several c.if-not-several.true e in
+    elim (cases_eq c.args.number 0) [
+      | inl z ↦ rw (c.then_some.ensures, eq-eqb c.args.number 0 z) (
+        omega (arith, u, c.from-size.ensures),
+        ap (nth a.what) z ∙ v ∙ ap (λ n. Some (value k (part xs c.args.place n))) (sym c.from-size.ensures),
+      )
+      | inr d ↦ rw (c.then_some.ensures, ne_eqb c.args.number 0 d) (nth_past a.what c.args.number (omega arith))
+    ]
 
 pub returns-then-number-count : goal.returns-then-number-count
 returns-then-number-count g c =
