@@ -1,3 +1,4 @@
+pub mod Asked
 pub mod Naming
 pub mod Passing
 pub mod Saying

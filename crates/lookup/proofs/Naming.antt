@@ -1,6 +1,7 @@
 -- The attribute that a call names, at each end of its checks.
-use Rattle.std.proofs.Common.{◌≡◌, ℕ, Bool, true, false, eqb, Some, None, Ok, Option, sym, refl, ap, ◌∙◌}
-use Rattle.std.proofs.lemmas.Bool.{both_ways, eqb-true, eq-eqb, ne_eqb}
+use Rattle.std.proofs.Common.{◌≡◌, ℕ, Bool, true, false, not, eqb, Some, None, Ok, Option, unwrap_or, sym, refl, ap, ◌∙◌, inl, inr}
+use Rattle.std.specs.Option.{option_eq}
+use Rattle.std.proofs.lemmas.Bool.{cases_eq, both_ways, eqb-true, eq-eqb, ne_eqb}
 use Rattle.source.specs.Outcome.{Outcome, ◌>>=◌, ◌>>◌, need, given, refused}
 use Rattle.source.specs.declared.refusals.Reason.TheVariants.{Level, UnknownId, Misplaced}
 use Rattle.source.proofs.Outcomes.{err_not_ok, ok_same, need_got, bind_got, then_got}
@@ -10,6 +11,7 @@ use Rattle.attribute.specs.declared.Rule.{Rule}
 use Rattle.attribute.specs.declared.Rule.TheVariants as rule
 use Rattle.frame.proofs.Placing.{find_id}
 use Rattle.stream.specs.Reading.{plain, nature}
+use Rattle.form.proofs.Natures.{find_every}
 use Rattle.message.specs.declared.Target.{Target}
 use Rattle.editing.specs.Targets.{Use, use_of, may_put, may_drop, target_level, attribute_for}
 
@@ -30,6 +32,26 @@ module _ (t : Target) (i : ℕ) (may : Use → Bool) where
     pub named : a.level ≡ target_level t → may (use_of a.rule) ≡ true → Ok a ≡ attribute_for t i may
     unfolding attribute_for ◌>>=◌ ◌>>◌
     named l u = rw (← known, eq-eqb a.level (target_level t) l, u)
+
+  -- What the comparison with the level that a target has, if it has one, says.
+  module _ (o : Option ℕ) (a : Attribute) (has : unwrap_or o 0 ≡ target_level t) where
+    pub level_other : Some a ≡ attribute_of i → true ≡ not (option_eq eqb o (Some a.level)) → a.level ≡ target_level t → ⊥
+    unfolding attribute_of
+    level_other k e l = by o has e
+      where
+        by : (o : Option ℕ) → unwrap_or o 0 ≡ target_level t → true ≡ not (option_eq eqb o (Some a.level)) → ⊥
+        by None u e = both_ways (not (eqb a.level 0)) (ap not (eq-eqb a.level 0 (l ∙ sym u))) (find_every (λ b. not (eqb b.level 0)) attributes i a refl (sym k))
+        by (Some n) u e = both_ways (not (eqb n a.level)) (ap not (eq-eqb n a.level (u ∙ sym l))) (sym e)
+
+    pub level_same : false ≡ not (option_eq eqb o (Some a.level)) → a.level ≡ target_level t
+    level_same e = by o has e
+      where
+        by : (o : Option ℕ) → unwrap_or o 0 ≡ target_level t → false ≡ not (option_eq eqb o (Some a.level)) → a.level ≡ target_level t
+        by None u e = absurd (both_ways true (sym e) refl)
+        by (Some n) u e = elim (cases_eq n a.level) [
+          | inl d ↦ sym d ∙ u
+          | inr k ↦ absurd (both_ways (not (eqb n a.level)) (sym e) (ap not (ne_eqb n a.level k)))
+        ]
 
 -- What an attribute that a call may name is.
 given_got : {A : Type 0} (o : Option A) (p : ℕ) (a : A) → Ok a ≡ given o UnknownId p → o ≡ Some a

@@ -1,5 +1,5 @@
 -- What a readable stream carries, and what the rows of a target's index say of it.
-use Rattle.std.specs.Prelude.{◌≡◌, ℕ, ◌+◌, ◌<◌, ◌≤◌, List, [], ◌++◌, map, length, take, Some, None, Option}
+use Rattle.std.specs.Prelude.{◌≡◌, ℕ, ◌+◌, ◌<◌, ◌≤◌, List, [], ◌++◌, map, length, Some, None, Option}
 use Rattle.std.specs.List.{AllByRecursion}
 use Rattle.source.specs.Bytes.{part}
 use Rattle.attribute.specs.Table.{code_page_id, recipients_id, message_properties_id}
@@ -51,10 +51,10 @@ pub record Passed (xs : List ℕ) (count p : ℕ) (s : Stage) : Type 0 where
   pub few : count < p
   pub along : AsWritten xs 6 Version → AsWritten xs p s
 
--- The rows of a target that may not be there: the first `used` of them, or none.
-abbrev pub SaysAny : List ℕ → List AttributeRow → ℕ → Option Holding → Option ℕ → Type 0
-SaysAny xs rows i o None = o ≡ None
-SaysAny xs rows i o (Some used) = (h : Holding) × (o ≡ Some h) × (used ≤ length rows) × Says xs (take used rows) i h
+-- The rows of a target that may not be there.
+abbrev pub SaysAny : List ℕ → ℕ → Option Holding → Option (List AttributeRow) → Type 0
+SaysAny xs i o None = o ≡ None
+SaysAny xs i o (Some rows) = (h : Holding) × (o ≡ Some h) × Says xs rows i h
 
 -- The data of an attribute stand where a row says, and mean contents.
 pub record Stood (xs : List ℕ) (a : Attribute) (c : Contents) (r : AttributeRow) : Type 0 where

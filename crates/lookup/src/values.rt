@@ -11,13 +11,11 @@ ghost use Rattle.message.specs.Sameness.{nth};
 ghost use Rattle.lookup.specs.Listing.{Reaches};
 ghost use Rattle.lookup.specs.Values.{Behind, ValueStands, ValueThere};
 
+use crate::COUNT_SIZE;
 use index::PropertyRow;
 use property::{Kind, padded, shape_of};
-use scan::u32_at;
+use scan::Number;
 use source::Source;
-
-// A count or a size stands before what it counts.
-const COUNT_SIZE: usize = 4;
 
 // Some bytes of a stream.
 #[derive(Clone, Copy)]
@@ -41,22 +39,15 @@ fn fixed_at<S: Source>(
 {
     let size = usize::from(width);
     if !several {
-        if number == 0 {
-            return Some(Span { place, size });
-        }
-        return None;
+        return (number == 0).then_some(Span { place, size });
     }
     let _total = source.len();
-    match u32_at(source, place) {
-        Ok(count) => {
-            if number >= count as usize {
-                return None;
-            }
-            let place = place + COUNT_SIZE + number * padded(size);
-            Some(Span { place, size })
-        }
-        Err(_) => None,
+    let count = u32::at(source, place).ok()?;
+    if number >= count as usize {
+        return None;
     }
+    let place = place + COUNT_SIZE + number * padded(size);
+    Some(Span { place, size })
 }
 
 // The place behind the value at `place`, which stands behind its size.
@@ -65,12 +56,11 @@ fn value_end<S: Source>(source: &mut S, place: usize) -> Option<usize>
     ensures value { Behind (meaning (S.Source.content source.old)) place result }
 {
     let _total = source.len();
-    match u32_at(source, place) {
-        Ok(size) => Some(place + COUNT_SIZE + padded(size as usize)),
-        Err(_) => None,
-    }
+    let size = u32::at(source, place).ok()?;
+    Some(place + COUNT_SIZE + padded(size as usize))
 }
 
+// The walk is that of `list_start`; one function for both would have to tell of any reading in its contract, which is no plainer.
 // Where the value with a number stands, of values from `place` on, each behind its size.
 fn value_start<S: Source>(source: &mut S, place: usize, number: usize) -> usize
     ensures same { S.Source.content source.new ≡ S.Source.content source.old }
@@ -78,11 +68,11 @@ fn value_start<S: Source>(source: &mut S, place: usize, number: usize) -> usize
         → Reaches (sized_value (meaning (S.Source.content source.old)) end start k) number place result }
 {
     let mut here = place;
-    for i in 0..number {
-        here = match value_end(source, here) {
-            Some(next) => next,
-            None => return here,
+    for _ in 0..number {
+        let Some(next) = value_end(source, here) else {
+            return here;
         };
+        here = next;
     }
     here
 }
@@ -94,22 +84,17 @@ fn sized_at<S: Source>(source: &mut S, place: usize, number: usize) -> Option<Sp
         → sized_values (meaning (S.Source.content source.old)) end start k several place ≡ Ok a
         → ValueStands (meaning (S.Source.content source.old)) k (nth a.what number) result }
 {
-    let count = match u32_at(source, place) {
-        Ok(count) => count as usize,
-        Err(_) => return None,
-    };
+    let count = u32::at(source, place).ok()? as usize;
     if number >= count {
         return None;
     }
     let _total = source.len();
     let start = value_start(source, place + COUNT_SIZE, number);
-    match u32_at(source, start) {
-        Ok(size) => Some(Span {
-            place: start + COUNT_SIZE,
-            size: size as usize,
-        }),
-        Err(_) => None,
-    }
+    let size = u32::at(source, start).ok()?;
+    Some(Span {
+        place: start + COUNT_SIZE,
+        size: size as usize,
+    })
 }
 
 // Where the value with a number stands, of the property that a row carries.
@@ -119,10 +104,7 @@ pub fn value_at<S: Source>(source: &mut S, row: &PropertyRow, number: usize) -> 
         → Carries (meaning (S.Source.content source.old)) end row.now p
         → ValueThere (meaning (S.Source.content source.old)) p.type (nth p.values number) result }
 {
-    let shape = match shape_of(row.number) {
-        Some(shape) => shape,
-        None => return None,
-    };
+    let shape = shape_of(row.number)?;
     match shape.kind {
         Kind::Fixed(width) => fixed_at(source, row.values, width, shape.several, number),
         Kind::YesNo => fixed_at(source, row.values, 2, shape.several, number),

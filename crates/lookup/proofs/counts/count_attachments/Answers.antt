@@ -6,9 +6,9 @@ use Rattle.lookup.proofs.counts.count_attachments.Goals as goal
 
 pub returns : goal.returns
 returns g c =
-    let w = c.pass-passed.ensures in
+    let w = c.pass.ensures in
     let xs = meaning (g.S.Source.content c.args.source.now) in
-    let end : length xs ≤ c.pass-passed.result.place = elim (cases_lt c.pass-passed.result.place (length xs)) [
+    let end : length xs ≤ c.pass.result.at.place = elim (cases_lt c.pass.result.at.place (length xs)) [
       | inl l ↦ absurd (omega (arith, w.stopped l, w.value.few, c.len-total.ensures.value, c.len-total.ensures.bound))
       | inr l ↦ l
     ] in

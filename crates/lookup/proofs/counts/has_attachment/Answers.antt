@@ -5,4 +5,4 @@ use Rattle.lookup.proofs.counts.has_attachment.Goals as goal
 pub returns : goal.returns
 returns g c =
     let w = c.pass-passed.ensures in
-    record { same = w.same; value = ap (ltb c.pass-passed.result.place) c.len-total.ensures.value ∙ passed_tells _ _ _ _ _ w.value w.within w.stopped }
+    record { same = w.same; value = ap (ltb c.pass-passed.result.at.place) c.len-total.ensures.value ∙ passed_tells _ _ _ _ _ w.value w.within w.stopped }

@@ -29,7 +29,7 @@ returns-in-Err g c =
     let q = c.in-Err.ensures in
     record { same = q.same; value = absurd (list_refused xs _ _ _ h.within c.requires.room _ (list_in xs _ _ ps h.reads) _ q.reads) }
 
-pub returns-in-None : goal.returns-in-None
-returns-in-None g c =
+pub returns-in_default : goal.returns-in_default
+returns-in_default g c =
     let xs = meaning (g.S.Source.content c.args.source.now) in
-    record { same = refl; value = rw (list_lost xs c.args.rows.now c.args.attribute.id c.in-None.ensures) (carrying_none xs _) }
+    record { same = refl; value = rw (list_lost xs c.args.rows.now c.args.attribute.id c.in_default.ensures) (carrying_none xs _) }

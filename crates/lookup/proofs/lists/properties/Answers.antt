@@ -1,10 +1,20 @@
-use Rattle.std.proofs.Common.{ap}
-use Rattle.source.specs.Content.{meaning}
-use Rattle.message.specs.Sameness.{holding}
-use Rattle.lookup.specs.Finding.{message_in}
+use Rattle.std.proofs.Common.{refl}
+use Rattle.form.proofs.Tells.{message_listed, attachment_listed}
+use Rattle.lookup.proofs.Listing.{row_carried}
 use Rattle.lookup.proofs.lists.properties.Goals as goal
 
-pub returns-in-Message : goal.returns-in-Message
-returns-in-Message g c =
-    let k = c.message_list.ensures in
-    record { same = k.same; value = (_, ap (holding (message_in (meaning (g.S.Source.content c.args.source.now)))) c.in-Message.is, k.value) }
+pub list_under-requires-clause-listed : goal.list_under-requires-clause-listed
+list_under-requires-clause-listed g c = message_listed
+
+pub list_under-requires-in-Attachment-clause-listed : goal.list_under-requires-in-Attachment-clause-listed
+list_under-requires-in-Attachment-clause-listed g c = attachment_listed
+
+pub returns-in-Message-clause-value : goal.returns-in-Message-clause-value
+returns-in-Message-clause-value g c =
+    let t = c.message_rows-rows.ensures in
+    rw c.in-Message.is (_, refl, rw (t.same, t.value.own.properties) at c.list_under.ensures.value)
+
+pub returns-in-Row-clause-value : goal.returns-in-Row-clause-value
+returns-in-Row-clause-value g c =
+    let t = c.message_rows-rows-in-Row.ensures in
+    rw c.in-Row.is (row_carried _ _ _ _ t.value.table c.in-Row.number _ (rw t.same at c.row_list.ensures.value))

@@ -1,7 +1,5 @@
 use Rattle.lookup.proofs.Saying.{says_message}
 use Rattle.lookup.proofs.targets.message_rows.Goals as goal
 
-pub returns : goal.returns
-returns g c =
-    let t = c.gather.ensures in
-    record { same = t.same; within = t.within; value = says_message _ _ _ _ c.requires.good t.value t.written }
+pub returns-clause-value : goal.returns-clause-value
+returns-clause-value g c = says_message _ _ _ _ c.requires.good c.gather.ensures.value c.gather.ensures.written

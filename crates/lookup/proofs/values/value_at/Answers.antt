@@ -7,20 +7,20 @@ use Rattle.lookup.specs.Values.{ValueStands}
 use Rattle.lookup.proofs.Valued.{said_as, unshaped, shaped_fixed, shaped_sized}
 use Rattle.lookup.proofs.values.value_at.Goals as goal
 
-pub returns-in-None : goal.returns-in-None
-returns-in-None g c =
+pub returns-in_err-shape : goal.returns-in_err-shape
+returns-in_err-shape g c =
     let xs = meaning (g.S.Source.content c.args.source.now) in
-    record { same = refl; value = λ end p l h. absurd (unshaped xs end c.args.row.now p h c.in-None.ensures) }
+    record { same = refl; value = λ end p l h. absurd (unshaped xs end c.args.row.now p h c.in_err-shape.ensures) }
 
 pub returns-in-Fixed : goal.returns-in-Fixed
 returns-in-Fixed g c =
     let xs = meaning (g.S.Source.content c.args.source.now) in
-    let s = c.in-Some.shape in
+    let s = c.in_ok-shape.shape in
     let q = c.fixed_at.ensures in
     record {
       same = q.same;
       value = λ end p l h.
-          let (start, a, reads, vs, t) = said_as xs end c.args.row.now p h s c.in-Some.ensures in (
+          let (start, a, reads, vs, t) = said_as xs end c.args.row.now p h s c.in_ok-shape.ensures in (
             s,
             t,
             subst (λ ws. ValueStands xs s.kind (nth ws c.args.number) c.fixed_at.result) (sym vs)
@@ -31,12 +31,12 @@ returns-in-Fixed g c =
 pub returns-in-YesNo : goal.returns-in-YesNo
 returns-in-YesNo g c =
     let xs = meaning (g.S.Source.content c.args.source.now) in
-    let s = c.in-Some.shape in
+    let s = c.in_ok-shape.shape in
     let q = c.fixed_at-in-YesNo.ensures in
     record {
       same = q.same;
       value = λ end p l h.
-          let (start, a, reads, vs, t) = said_as xs end c.args.row.now p h s c.in-Some.ensures in (
+          let (start, a, reads, vs, t) = said_as xs end c.args.row.now p h s c.in_ok-shape.ensures in (
             s,
             t,
             subst (λ ws. ValueStands xs s.kind (nth ws c.args.number) c.fixed_at-in-YesNo.result) (sym vs)
@@ -47,12 +47,12 @@ returns-in-YesNo g c =
 pub returns-in_default : goal.returns-in_default
 returns-in_default g c =
     let xs = meaning (g.S.Source.content c.args.source.now) in
-    let s = c.in-Some.shape in
+    let s = c.in_ok-shape.shape in
     let q = c.sized_at.ensures in
     record {
       same = q.same;
       value = λ end p l h.
-          let (start, a, reads, vs, t) = said_as xs end c.args.row.now p h s c.in-Some.ensures in (
+          let (start, a, reads, vs, t) = said_as xs end c.args.row.now p h s c.in_ok-shape.ensures in (
             s,
             t,
             subst (λ ws. ValueStands xs s.kind (nth ws c.args.number) c.sized_at.result) (sym vs)

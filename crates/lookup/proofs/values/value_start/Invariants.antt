@@ -5,8 +5,8 @@ use Rattle.property.specs.Values.{sized_value}
 use Rattle.lookup.specs.Listing.{Reaches}
 use Rattle.lookup.proofs.values.value_start.Given as goal
 
-abbrev pub invariant-loop-i : goal.invariant-loop-i
-invariant-loop-i g l =
+abbrev pub invariant-loop : goal.invariant-loop
+invariant-loop g l =
     (g.S.Source.content l.source ≡ g.S.Source.content l.initial.source)
     × ((end start : ℕ) (k : Kind) → end ≤ length (meaning (g.S.Source.content l.initial.source))
-    → Reaches (sized_value (meaning (g.S.Source.content l.initial.source)) end start k) l.i l.place l.here)
+    → Reaches (sized_value (meaning (g.S.Source.content l.initial.source)) end start k) l.counter l.place l.here)
