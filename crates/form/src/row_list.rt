@@ -61,6 +61,13 @@ impl Rows {
     {
         &self.rows[0..self.used]
     }
+
+    // The row under an id.
+    pub fn under(&self, id: u32) -> Option<AttributeRow>
+        ensures { result ≡ row_under id self.now }
+    {
+        row_under(self.as_slice(), id)
+    }
 }
 
 // The search in the library's words; `row_under` says it in those of rows.
