@@ -12,13 +12,13 @@ use Rattle.source.specs.declared.refusals.Refusal.{Refusal}
 use Rattle.source.proofs.Outcomes.{err_not_ok, ok_same, over_got, over_lost}
 use Rattle.contents.specs.Options.{where_true}
 use Rattle.frame.specs.declared.stages.Stage.TheVariants.{Version}
-use Rattle.pen.specs.Pen.{Penned}
 use Rattle.property.specs.Fields.{done}
 use Rattle.property.specs.Lists.{list_limit}
 use Rattle.stream.specs.Reading.{entries_of}
 use Rattle.stream.specs.Messages.{Message, message_of, read}
 use Rattle.stream.specs.Writing.{written}
 use Rattle.form.specs.Targets.{Readable}
+use Rattle.form.specs.Wholes.{Fills}
 use Rattle.form.proofs.Restated.{judged_good, judged_read, wrote_some, wrote_none}
 use Rattle.editing.specs.Edits.{Edit, change}
 use Rattle.lookup.specs.Finding.{message_in}
@@ -34,18 +34,18 @@ module _ (room : ℕ) (m : Message) (before after rest : List ℕ) (h : length b
   fits_not : (n : ℕ) → min room source_limit < n → (leb n room && leb n source_limit) ≡ false
   fits_not n h = grind (arith, nat_tests)
 
-  pub wrote_form : (n : ℕ) → Penned before (Some 0) (written m) after (Some n) → Ok n ≡ over length (fitted room m)
+  pub wrote_form : (n : ℕ) → Fills before (written m) after (Some n) → Ok n ≡ over length (fitted room m)
   unfolding fitted ◌>>◌
   wrote_form n p = let (e, l, t) = wrote_some before (written m) after n p in rw (fits (length (written m)) (omega arith), e)
 
-  pub wrote_front : (n : ℕ) → Penned before (Some 0) (written m) after (Some n) → Front (fitted room m) (after ++ rest)
+  pub wrote_front : (n : ℕ) → Fills before (written m) after (Some n) → Front (fitted room m) (after ++ rest)
   unfolding fitted ◌>>◌
   wrote_front n p =
       let (e, l, t) = wrote_some before (written m) after n p in
       let k : length (written m) ≤ length after = omega (arith, p.kept) in
       rw (fits (length (written m)) (omega arith)) (take-append-le (length (written m)) after rest k ∙ rw (← e) t)
 
-  pub wrote_nothing : Penned before (Some 0) (written m) after None → fitted room m ≡ refused FormTooLong 0
+  pub wrote_nothing : Fills before (written m) after None → fitted room m ≡ refused FormTooLong 0
   unfolding fitted ◌>>◌
   wrote_nothing p = rw (fits_not (length (written m)) (omega (arith, wrote_none before (written m) after p)))
 

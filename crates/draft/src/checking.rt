@@ -115,9 +115,16 @@ fn keys_of<S: Source>(
     ensures value { (h : Holding) → holding (message_in (meaning (S.Source.content source.old))) target ≡ Some h
         → (result.count ≡ length h.properties) × (result.found ≡ has_key (key_of key.now) h.properties) }
 {
-    let count = properties(source, target, rows).unwrap_or(0);
-    let found = find_key(&rows[0..count], key).is_some();
-    Keys { count, found }
+    match properties(source, target, rows) {
+        Some(count) => Keys {
+            count,
+            found: find_key(&rows[0..count], key).is_some(),
+        },
+        None => Keys {
+            count: 0,
+            found: false,
+        },
+    }
 }
 
 pub(crate) fn put_property<S: Source>(

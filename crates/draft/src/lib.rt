@@ -119,10 +119,13 @@ fn begin_within(
     ensures form { Front (begun (memory bytes.old rows.now) room primary) bytes.new }
 {
     enough(bytes, rows, room)?;
-    pen_blank(&mut bytes[0..room], primary).ok_or(Refusal {
-        reason: Reason::FormTooLong,
-        place: 0,
-    })
+    let Some(n) = pen_blank(&mut bytes[0..room], primary) else {
+        return Err(Refusal {
+            reason: Reason::FormTooLong,
+            place: 0,
+        });
+    };
+    Ok(n)
 }
 
 // The first `n` of the bytes, and zeros behind them.

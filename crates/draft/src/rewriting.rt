@@ -77,10 +77,13 @@ fn rewrite<S: Source>(
 {
     let most = room.min(SOURCE_LIMIT);
     let mut input = Held::new(put)?;
-    fill(source, &mut input, amendment, rows, &mut bytes[0..most]).ok_or(Refusal {
-        reason: Reason::FormTooLong,
-        place: 0,
-    })
+    let Some(n) = fill(source, &mut input, amendment, rows, &mut bytes[0..most]) else {
+        return Err(Refusal {
+            reason: Reason::FormTooLong,
+            place: 0,
+        });
+    };
+    Ok(n)
 }
 
 // Writes the form of an edited draft within as many of the work bytes as the area has.

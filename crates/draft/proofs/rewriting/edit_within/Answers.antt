@@ -34,18 +34,18 @@ check-requires c =
     let d = state c.args.area.now c.args.size in
     let (m, o) = opened_got (memory c.args.bytes.now c.args.rows.now) d _ c.in_ok-open.ensures in
     let (good, is) = read_good (form d) m o.reads in
-    let e = held_form c.args.area.now c.args.size _ c.in-Ok.ensures.1 in
+    let e = held_form c.args.area.now c.args.size _ c.in_ok-source.ensures.1 in
     record { good = rw e good; room = omega (arith, o.rows_enough, c.open.auto.rows) }
 
-pub returns-in_err-amendment-in-Ok : goal.returns-in_err-amendment-in-Ok
-returns-in_err-amendment-in-Ok c =
-    let p = err_from_is_err_and c.from_residual-in_err-amendment-in-Ok.result c.from_residual-in_err-amendment-in-Ok.ensures.1 in
+pub returns-in_err-amendment : goal.returns-in_err-amendment
+returns-in_err-amendment c =
+    let p = err_from_is_err_and c.from_residual-in_err-amendment.result c.from_residual-in_err-amendment.ensures.1 in
     let w = memory c.args.bytes.now c.args.rows.now in
     let d = state c.args.area.now c.args.size in
     let (m, o) = opened_got w d _ c.in_ok-open.ensures in
     let (good, is) = read_good (form d) m o.reads in
-    let e = held_form c.args.area.now c.args.size _ c.in-Ok.ensures.1 in
-    let q = rw (e, is) at c.in_err-amendment-in-Ok.ensures.checks in
+    let e = held_form c.args.area.now c.args.size _ c.in_ok-source.ensures.1 in
+    let q = rw (e, is) at c.in_err-amendment.ensures.checks in
     let f = edit_refused w d (edit_of c.args.edit) m _ o.is q in
     rw (p.1, p.2) (record { outcome = sym (ap (over length) f); form = rw f tt })
 
@@ -54,8 +54,8 @@ rewrite-requires c =
     let d = state c.args.area.now c.args.size in
     let (m, o) = opened_got (memory c.args.bytes.now c.args.rows.now) d _ c.in_ok-open.ensures in
     let (good, is) = read_good (form d) m o.reads in
-    let e = held_form c.args.area.now c.args.size _ c.in-Ok.ensures.1 in
-    let k = c.in_ok-amendment-in-Ok.ensures in
+    let e = held_form c.args.area.now c.args.size _ c.in_ok-source.ensures.1 in
+    let k = c.in_ok-amendment.ensures in
     let (s, means, changed, short) = k.checks in
     let p = c.put_by.ensures in
     record {
@@ -66,26 +66,26 @@ rewrite-requires c =
       lent = omega (arith, o.rows_enough, c.open.auto.rows, c.check.auto.rows);
     }
 
-pub returns-in_ok-amendment-in-Ok : goal.returns-in_ok-amendment-in-Ok
-returns-in_ok-amendment-in-Ok c =
+pub returns : goal.returns
+returns c =
     let w = memory c.args.bytes.now c.args.rows.now in
     let d = state c.args.area.now c.args.size in
     let (m, o) = opened_got w d _ c.in_ok-open.ensures in
     let (good, is) = read_good (form d) m o.reads in
-    let e = held_form c.args.area.now c.args.size _ c.in-Ok.ensures.1 in
-    let k = c.in_ok-amendment-in-Ok.ensures in
+    let e = held_form c.args.area.now c.args.size _ c.in_ok-source.ensures.1 in
+    let k = c.in_ok-amendment.ensures in
     let (s, means, changed, short) = k.checks in
     let n = ap (λ (l : Content). message_in (meaning l)) k.same ∙ ap message_in e ∙ is in
     let there = ap message_in e ∙ is in
     let f = edit_fitted w d (edit_of c.args.edit) m (amended s m) o.is (subst (λ x. change (edit_of c.args.edit) x ≡ Ok (amended s x)) there changed) in
-    let a = subst (λ l. AmendmentMeans l c.in_ok-amendment-in-Ok.amendment s) (sym c.put_by.ensures) means in
+    let a = subst (λ l. AmendmentMeans l c.in_ok-amendment.amendment s) (sym c.put_by.ensures) means in
     record {
       outcome = c.rewrite.ensures.outcome s a ∙ ap (λ x. over length (fitted (length c.args.area.now) (amended s x))) n ∙ sym (ap (over length) f);
       form = subst (λ x. Front x c.rewrite.new.bytes) (sym f) (subst (λ x. Front (fitted (length c.args.area.now) (amended s x)) c.rewrite.new.bytes) n (c.rewrite.ensures.form s a));
     }
 
-pub returns-in-Err : goal.returns-in-Err
-returns-in-Err c =
+pub returns-in_err-source : goal.returns-in_err-source
+returns-in_err-source c =
     let d = state c.args.area.now c.args.size in
     let (m, o) = opened_got (memory c.args.bytes.now c.args.rows.now) d _ c.in_ok-open.ensures in
-    absurd (omega (arith, c.in-Err.ensures.0, length-take (c.args.size - 0) c.args.area.now, o.short))
+    absurd (omega (arith, c.in_err-source.ensures.0, length-take (c.args.size - 0) c.args.area.now, o.short))

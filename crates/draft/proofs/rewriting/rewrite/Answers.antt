@@ -7,7 +7,7 @@ use Rattle.draft.proofs.rewriting.rewrite.Goals as goal
 
 pub returns-in-Some : goal.returns-in-Some
 returns-in-Some g c =
-    let (s, m) = c.in-Ok.ensures in
+    let (s, m) = c.in_ok-input.ensures in
     let v = rw m at c.in-Some.ensures.value in
     let l : length (take (c.min-most.result - 0) c.args.bytes.now) ≡ min c.args.room source_limit = omega (arith, length-take (c.min-most.result - 0) c.args.bytes.now, c.min-most.ensures, c.requires.fits) in
     record {
@@ -17,7 +17,7 @@ returns-in-Some g c =
 
 pub returns-in-None : goal.returns-in-None
 returns-in-None g c =
-    let (s, m) = c.in-Ok.ensures in
+    let (s, m) = c.in_ok-input.ensures in
     let v = rw m at c.in-None.ensures.value in
     let l : length (take (c.min-most.result - 0) c.args.bytes.now) ≡ min c.args.room source_limit = omega (arith, length-take (c.min-most.result - 0) c.args.bytes.now, c.min-most.ensures, c.requires.fits) in
     record {
