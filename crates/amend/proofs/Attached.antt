@@ -69,21 +69,13 @@ module _ (xs : List ℕ) (p : ℕ) (s : Stage) (g : Readable xs p s) where
   more_held r h q t e = let (x, es, m, d) = head xs p s g r h in rw (e, m) (first_held x es d)
 
 -- One attachment more of those that are left.
-take_step : (n : ℕ) (h : Holding) (hs ks : List Holding) → 0 < n → hs ≡ h ∷ ks → take n hs ≡ h ∷ take (n - 1) ks
-take_step zero h hs ks z e = absurd (omega arith)
-take_step (suc n) h hs ks z e = let m : suc n - 1 ≡ n = omega arith in rw (e, m)
-
-drop_step : (n : ℕ) (h : Holding) (hs ks : List Holding) → 0 < n → hs ≡ h ∷ ks → drop n hs ≡ drop (n - 1) ks
-drop_step zero h hs ks z e = absurd (omega arith)
-drop_step (suc n) h hs ks z e = let m : suc n - 1 ≡ n = omega arith in rw (e, m)
-
-pub left_more : (n : ℕ) (es : List Entry) (hs ks : List Holding) → 0 < n → hs ≡ holding_of es ∷ ks
-    → attachments_bytes (take n hs) ≡ attached es ++ attachments_bytes (take (n - 1) ks)
+pub left_more : (n m : ℕ) (es : List Entry) (hs ks : List Holding) → n ≡ suc m → hs ≡ holding_of es ∷ ks
+    → attachments_bytes (take n hs) ≡ attached es ++ attachments_bytes (take m ks)
 unfolding attached
-left_more n es hs ks z e = ap attachments_bytes (take_step n (holding_of es) hs ks z e) ∙ bytes_cons (holding_of es) (take (n - 1) ks)
+left_more n m es hs ks z e = rw (z, e) (bytes_cons (holding_of es) (take m ks))
 
-pub left_behind : (n : ℕ) (es : List Entry) (hs ks all : List Holding) → 0 < n → hs ≡ holding_of es ∷ ks → drop n hs ≡ all → drop (n - 1) ks ≡ all
-left_behind n es hs ks all z e f = sym (drop_step n (holding_of es) hs ks z e) ∙ f
+pub left_behind : (n m : ℕ) (es : List Entry) (hs ks all : List Holding) → n ≡ suc m → hs ≡ holding_of es ∷ ks → drop n hs ≡ all → drop m ks ≡ all
+left_behind n m es hs ks all z e f = rw (z, e) at f
 
 -- Nothing is left.
 pub left_none : (n : ℕ) (hs all : List Holding) → n ≤ 0 → drop n hs ≡ all → (attachments_bytes (take n hs) ≡ []) × (hs ≡ all)

@@ -23,8 +23,9 @@ use Rattle.editing.specs.Amendments.{list_after, rows_after, nth_list}
 use Rattle.editing.specs.Slots.{change_nth, without_nth}
 use Rattle.amend.specs.Changes.{RowingMeans}
 use Rattle.amend.specs.Tables.{rows_from, added_bytes, count_after, TableRead}
-use Rattle.amend.specs.declared.changes.Rowing.{Rowing}
-use Rattle.amend.specs.declared.changes.Rowing.TheVariants.{AsTheyAre, Added, Removed, Changed}
+use Rattle.amend.specs.declared.changes.Change.{Change}
+use Rattle.amend.specs.declared.changes.Change.TheVariants.{Kept, Added, Removed, Changed}
+use Rattle.amend.specs.declared.changes.Listing.{Listing}
 
 -- Rows that stay as they are: all, or all behind the one that is left out or changed.
 all_stay : (i : ℕ) (rs : List (List Property)) → rows_from spec.as_they_are i rs ≡ rs
@@ -73,15 +74,15 @@ length_changed r qs [] = refl
 length_changed zero qs (ps ∷ rs) = refl
 length_changed (suc r) qs (ps ∷ rs) = ap suc (length_changed r qs rs)
 
-pub record AllRows (rowing : Rowing) (ρ : spec.Rowing) (rs : List (List Property)) : Type 0 where
+pub record AllRows (rowing : Change Listing) (ρ : spec.Rowing) (rs : List (List Property)) : Type 0 where
   pub count : count_after rowing (length rs) ≡ length (rows_after ρ rs)
   pub bytes : flat_map write_list (rows_from ρ 0 rs) ++ added_bytes rowing ≡ flat_map write_list (rows_after ρ rs)
 
-pub all_rows : (ys : List ℕ) (rowing : Rowing) (ρ : spec.Rowing) → RowingMeans ys rowing ρ → (rs : List (List Property)) → AllRows rowing ρ rs
-all_rows ys AsTheyAre spec.as_they_are m rs = record { count = refl; bytes = append-nil _ ∙ ap (flat_map write_list) (all_stay 0 rs) }
-all_rows ys AsTheyAre spec.row_added m rs = absurd m
-all_rows ys AsTheyAre (spec.row_removed r) m rs = absurd m
-all_rows ys AsTheyAre (spec.row_changed r l) m rs = absurd m
+pub all_rows : (ys : List ℕ) (rowing : Change Listing) (ρ : spec.Rowing) → RowingMeans ys rowing ρ → (rs : List (List Property)) → AllRows rowing ρ rs
+all_rows ys Kept spec.as_they_are m rs = record { count = refl; bytes = append-nil _ ∙ ap (flat_map write_list) (all_stay 0 rs) }
+all_rows ys Kept spec.row_added m rs = absurd m
+all_rows ys Kept (spec.row_removed r) m rs = absurd m
+all_rows ys Kept (spec.row_changed r l) m rs = absurd m
 all_rows ys Added spec.as_they_are m rs = absurd m
 all_rows ys Added spec.row_added m rs = record {
   count = sym (simp length-append);

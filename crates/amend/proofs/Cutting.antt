@@ -1,5 +1,6 @@
 -- Rows that carry a list, cut where a change cuts them: what is written is the changed list.
-use Rattle.std.proofs.Common.{◌≡◌, ℕ, zero, suc, ◌+◌, ◌-◌, ◌<◌, ◌≤◌, true, false, List, [], ◌∷◌, ◌++◌, length, take, drop, Some, None, Option, sym, refl, ap, ◌∙◌, inl, inr, append_assoc, append-nil, add-one, one-add, arith}
+use Rattle.std.proofs.Common.{◌≡◌, ℕ, zero, suc, ◌+◌, ◌-◌, ◌<◌, ◌≤◌, true, false, List, [], ◌∷◌, ◌++◌, length, take, drop, is_some, Some, None, Option, sym, refl, ap, ◌∙◌, inl, inr, append_assoc, append-nil, add-one, one-add, arith}
+use mir.Val.{bool_byte}
 use Rattle.std.proofs.lemmas.List.{length-append, length-take, length-drop, take_all, drop_all}
 use Rattle.std.proofs.lemmas.Bool.{cases_Bool, both_ways}
 use Rattle.source.specs.Bytes.{le}
@@ -27,6 +28,10 @@ use Rattle.amend.specs.declared.cuts.Cut.{Cut}
 pub found_below : (rows : List PropertyRow) (r : PropertyRow) (o : Option ℕ) → o ≡ position same_row rows r → Below (length rows) o
 found_below rows r (Some i) e = position_below same_row rows r i e
 found_below rows r None e = tt
+
+pub put_counted : (o : Option PropertyRow) → bool_byte (is_some o) ≡ length (put_rows o)
+put_counted None = refl
+put_counted (Some r) = refl
 
 pub rest_is : (rs : List PropertyRow) (n : ℕ) → take (length rs - n) (drop n rs) ≡ drop n rs
 rest_is rs n = take_all _ _ (simp length-drop (omega arith))

@@ -2,6 +2,8 @@
 use Rattle.std.proofs.Common.{◌≡◌, ℕ, ◌-◌, ◌≤◌, min, List, [], ◌∷◌, length, take, Some, None, Ok, Err, sym, refl, ap, ◌∙◌, append-nil, arith}
 use native.Mathlib.Nat.{sub-zero}
 use Rattle.std.specs.List.{flat_map}
+use Rattle.std.specs.Result.{IsOk}
+use Rattle.source.specs.Outcome.{Outcome}
 use Rattle.source.specs.declared.refusals.Refusal.{Refusal}
 use Rattle.source.proofs.Outcomes.{err_not_ok}
 use Rattle.attribute.specs.Table.{attribute_of}
@@ -44,6 +46,11 @@ module _ (xs : List ℕ) (end place room : ℕ) (l : end ≤ length xs) (m : lis
   pub indexed_lost : (after : List PropertyRow) (q : Refusal) → ListedBy xs (data_end xs end) (listed xs (data_end xs end) place room) after (Err q)
       → (a : At (List Property)) → list_at xs end place ≡ Ok a → ⊥
   indexed_lost after q e a f = err_not_ok (sym e ∙ (listed_is xs end place room l m ∙ f))
+
+  pub indexed_got : (after : List PropertyRow) (o : Outcome Listed) → ListedBy xs (data_end xs end) (listed xs (data_end xs end) place room) after o
+      → (a : At (List Property)) → list_at xs end place ≡ Ok a → IsOk o
+  indexed_got after (Ok r) e a f = refl
+  indexed_got after (Err q) e a f = absurd (indexed_lost after q e a f)
 
 -- The list that rows of attributes have under an id.
 module _ (xs : List ℕ) (rs : List AttributeRow) (a : Attribute) where

@@ -1,8 +1,9 @@
 -- What is written of attachments of which one is changed.
-use Rattle.std.specs.Prelude.{◌≡◌, ℕ, List, [], ◌∷◌, map, take, drop, Option}
+use Rattle.std.specs.Prelude.{◌≡◌, ℕ, List, [], ◌∷◌, map, take, drop}
 use Rattle.std.specs.List.{flat_map}
 use Rattle.frame.specs.declared.stages.Stage.{Stage}
-use Rattle.pen.specs.Pen.{Penned}
+use Rattle.pen.specs.Pen.{Wrote}
+use Rattle.pen.specs.declared.Pen.{Pen}
 use Rattle.stream.specs.Reading.{Entry}
 use Rattle.stream.specs.Messages.{Holding, holding_of, attachment_parts}
 use Rattle.stream.specs.Writing.{write_entry, attachment_entries}
@@ -29,8 +30,8 @@ unfoldable pub nth_touched : spec.Touch → ℕ → List Holding → List Holdin
 nth_touched τ k hs = change_at hs k τ (nth hs k)
 
 -- The first n attachments from p on were written, and the others begin at q.
-pub record Firsts (xs : List ℕ) (p : ℕ) (s : Stage) (n : ℕ) (before : List ℕ) (here : Option ℕ) (q : ℕ) (t : Stage) (after : List ℕ) (r : Option ℕ) : Type 0 where
-  pub penned : Penned before here (attachments_bytes (take n (attachments_in (remaining xs p s)))) after r
+pub record Firsts (xs : List ℕ) (p : ℕ) (s : Stage) (n : ℕ) (before : Pen) (q : ℕ) (t : Stage) (after : Pen) : Type 0 where
+  pub penned : Wrote before (attachments_bytes (take n (attachments_in (remaining xs p s)))) after
   pub rest : attachments_in (remaining xs q t) ≡ drop n (attachments_in (remaining xs p s))
   pub good : Readable xs q t
   pub rendered : Rendered (remaining xs q t)

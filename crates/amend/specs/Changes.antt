@@ -11,10 +11,8 @@ use Rattle.amend.specs.declared.changes.Slot.TheVariants.{Kept, Put, Dropped}
 use Rattle.amend.specs.declared.changes.Listing.{Listing}
 use Rattle.amend.specs.declared.changes.Listing.TheVariants.{Same, With, Less}
 use Rattle.amend.specs.declared.changes.Touch.{Touch}
-use Rattle.amend.specs.declared.changes.Rowing.{Rowing}
-use Rattle.amend.specs.declared.changes.Rowing.TheVariants.{AsTheyAre, Added as RowAdded, Removed as RowRemoved, Changed as RowChanged}
-use Rattle.amend.specs.declared.changes.Attaching.{Attaching}
-use Rattle.amend.specs.declared.changes.Attaching.TheVariants.{AsBefore, Added as AttachmentAdded, Removed as AttachmentRemoved, Changed as AttachmentChanged}
+use Rattle.amend.specs.declared.changes.Change.{Change}
+use Rattle.amend.specs.declared.changes.Change.TheVariants.{Kept as AsBefore, Added, Removed, Changed}
 use Rattle.amend.specs.declared.changes.Amendment.{Amendment}
 
 module _ (ys : List ℕ) where
@@ -44,41 +42,41 @@ module _ (ys : List ℕ) where
     pub slot : SlotMeans t.slot s.slot
     pub listing : ListingMeans t.listing s.listing
 
-  abbrev pub RowingMeans : Rowing → spec.Rowing → Type 0
-  RowingMeans AsTheyAre spec.as_they_are = Unit {0}
-  RowingMeans AsTheyAre spec.row_added = ⊥
-  RowingMeans AsTheyAre (spec.row_removed r) = ⊥
-  RowingMeans AsTheyAre (spec.row_changed r l) = ⊥
-  RowingMeans RowAdded spec.as_they_are = ⊥
-  RowingMeans RowAdded spec.row_added = Unit {0}
-  RowingMeans RowAdded (spec.row_removed r) = ⊥
-  RowingMeans RowAdded (spec.row_changed r l) = ⊥
-  RowingMeans (RowRemoved q) spec.as_they_are = ⊥
-  RowingMeans (RowRemoved q) spec.row_added = ⊥
-  RowingMeans (RowRemoved q) (spec.row_removed r) = q ≡ r
-  RowingMeans (RowRemoved q) (spec.row_changed r l) = ⊥
-  RowingMeans (RowChanged q k) spec.as_they_are = ⊥
-  RowingMeans (RowChanged q k) spec.row_added = ⊥
-  RowingMeans (RowChanged q k) (spec.row_removed r) = ⊥
-  RowingMeans (RowChanged q k) (spec.row_changed r l) = (q ≡ r) × ListingMeans k l
+  abbrev pub RowingMeans : Change Listing → spec.Rowing → Type 0
+  RowingMeans AsBefore spec.as_they_are = Unit {0}
+  RowingMeans AsBefore spec.row_added = ⊥
+  RowingMeans AsBefore (spec.row_removed r) = ⊥
+  RowingMeans AsBefore (spec.row_changed r l) = ⊥
+  RowingMeans Added spec.as_they_are = ⊥
+  RowingMeans Added spec.row_added = Unit {0}
+  RowingMeans Added (spec.row_removed r) = ⊥
+  RowingMeans Added (spec.row_changed r l) = ⊥
+  RowingMeans (Removed q) spec.as_they_are = ⊥
+  RowingMeans (Removed q) spec.row_added = ⊥
+  RowingMeans (Removed q) (spec.row_removed r) = q ≡ r
+  RowingMeans (Removed q) (spec.row_changed r l) = ⊥
+  RowingMeans (Changed q k) spec.as_they_are = ⊥
+  RowingMeans (Changed q k) spec.row_added = ⊥
+  RowingMeans (Changed q k) (spec.row_removed r) = ⊥
+  RowingMeans (Changed q k) (spec.row_changed r l) = (q ≡ r) × ListingMeans k l
 
-  abbrev pub AttachingMeans : Attaching → spec.Attaching → Type 0
+  abbrev pub AttachingMeans : Change Touch → spec.Attaching → Type 0
   AttachingMeans AsBefore spec.as_before = Unit {0}
   AttachingMeans AsBefore (spec.attachment_added c) = ⊥
   AttachingMeans AsBefore (spec.attachment_removed k) = ⊥
   AttachingMeans AsBefore (spec.attachment_changed k t) = ⊥
-  AttachingMeans AttachmentAdded spec.as_before = ⊥
-  AttachingMeans AttachmentAdded (spec.attachment_added c) = means rule.Rendering ys ≡ Some c
-  AttachingMeans AttachmentAdded (spec.attachment_removed k) = ⊥
-  AttachingMeans AttachmentAdded (spec.attachment_changed k t) = ⊥
-  AttachingMeans (AttachmentRemoved l) spec.as_before = ⊥
-  AttachingMeans (AttachmentRemoved l) (spec.attachment_added c) = ⊥
-  AttachingMeans (AttachmentRemoved l) (spec.attachment_removed k) = l ≡ k
-  AttachingMeans (AttachmentRemoved l) (spec.attachment_changed k t) = ⊥
-  AttachingMeans (AttachmentChanged l s) spec.as_before = ⊥
-  AttachingMeans (AttachmentChanged l s) (spec.attachment_added c) = ⊥
-  AttachingMeans (AttachmentChanged l s) (spec.attachment_removed k) = ⊥
-  AttachingMeans (AttachmentChanged l s) (spec.attachment_changed k t) = (l ≡ k) × TouchMeans s t
+  AttachingMeans Added spec.as_before = ⊥
+  AttachingMeans Added (spec.attachment_added c) = means rule.Rendering ys ≡ Some c
+  AttachingMeans Added (spec.attachment_removed k) = ⊥
+  AttachingMeans Added (spec.attachment_changed k t) = ⊥
+  AttachingMeans (Removed l) spec.as_before = ⊥
+  AttachingMeans (Removed l) (spec.attachment_added c) = ⊥
+  AttachingMeans (Removed l) (spec.attachment_removed k) = l ≡ k
+  AttachingMeans (Removed l) (spec.attachment_changed k t) = ⊥
+  AttachingMeans (Changed l s) spec.as_before = ⊥
+  AttachingMeans (Changed l s) (spec.attachment_added c) = ⊥
+  AttachingMeans (Changed l s) (spec.attachment_removed k) = ⊥
+  AttachingMeans (Changed l s) (spec.attachment_changed k t) = (l ≡ k) × TouchMeans s t
 
   abbrev pub PageMeans : Bool → Option ℕ → Type 0
   PageMeans false None = Unit {0}

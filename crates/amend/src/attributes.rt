@@ -2,7 +2,7 @@
 ghost use Rattle.std.specs.Prelude.{◌≡◌, ◌^◌, ◌<◌, true, length};
 ghost use Rattle.std.specs.List.{AllByRecursion};
 ghost use Rattle.source.specs.Content.{meaning};
-ghost use Rattle.pen.specs.Pen.{Penned};
+ghost use Rattle.pen.specs.Pen.{Wrote};
 ghost use Rattle.contents.specs.Contents.{admits, normal_data};
 ghost use Rattle.form.specs.Framing.{framed};
 ghost use Rattle.form.specs.Targets.{Standing};
@@ -13,23 +13,19 @@ ghost use Rattle.amend.specs.Parts.{attribute_after, attributes_after};
 
 use crate::changes::Slot;
 use attribute::Attribute;
-use form::{write_attribute, write_row};
+use form::{Rows, write_attribute, write_row};
 use index::AttributeRow;
+use pen::Pen;
 use source::Source;
 
 // A frame of an attribute with the normal data of all of the input.
-pub fn write_input<T: Source>(
-    input: &mut T,
-    attribute: Attribute,
-    out: &mut [u8],
-    here: Option<usize>,
-) -> Option<usize>
-    requires fits { length out.old < 2 ^ 32 }
+pub fn write_input<T: Source>(input: &mut T, attribute: Attribute, pen: &mut Pen<'_>)
+    requires fits { length pen.old.out.now < 2 ^ 32 }
     requires good { admits attribute.rule (meaning (T.Source.content input.old)) ≡ true }
     ensures same { T.Source.content input.new ≡ T.Source.content input.old }
-    ensures value { Penned out.old here
+    ensures value { Wrote pen.old
         (framed attribute.level attribute.id (normal_data attribute.rule (meaning (T.Source.content input.old))))
-        out.new result }
+        pen.new }
 {
     let size = input.len();
     let row = AttributeRow {
@@ -37,34 +33,33 @@ pub fn write_input<T: Source>(
         place: 0,
         size,
     };
-    write_row(input, attribute, row, out, here)
+    write_row(input, attribute, row, pen);
 }
 
 // The frame of one attribute: the input where the slot puts it, none where it is dropped.
 pub fn write_changed_attribute<S: Source, T: Source>(
     source: &mut S,
     input: &mut T,
-    rows: &[AttributeRow],
+    rows: &Rows,
     attribute: Attribute,
     slot: Slot,
-    out: &mut [u8],
-    here: Option<usize>,
-) -> Option<usize>
-    requires fits { length out.old < 2 ^ 32 }
+    pen: &mut Pen<'_>,
+)
+    requires fits { length pen.old.out.now < 2 ^ 32 }
     requires sound { AllByRecursion (Standing (meaning (S.Source.content source.old))) rows.now }
     requires simple { Plain attribute }
     requires meant { (σ : spec.Slot) × SlotMeans (meaning (T.Source.content input.old)) slot σ }
     ensures same { S.Source.content source.new ≡ S.Source.content source.old }
     ensures kept { T.Source.content input.new ≡ T.Source.content input.old }
     ensures value { (σ : spec.Slot) → SlotMeans (meaning (T.Source.content input.old)) slot σ
-        → Penned out.old here
+        → Wrote pen.old
         (attribute_after (meaning (S.Source.content source.old)) rows.now σ attribute)
-        out.new result }
+        pen.new }
 {
     match slot {
-        Slot::Put(put) if put.id == attribute.id => write_input(input, attribute, out, here),
-        Slot::Dropped(id) if id == attribute.id => here,
-        _ => write_attribute(source, rows, attribute, out, here),
+        Slot::Put(put) if put.id == attribute.id => write_input(input, attribute, pen),
+        Slot::Dropped(id) if id == attribute.id => {}
+        _ => write_attribute(source, rows, attribute, pen),
     }
 }
 
@@ -72,26 +67,23 @@ pub fn write_changed_attribute<S: Source, T: Source>(
 pub fn write_changed_attributes<S: Source, T: Source>(
     source: &mut S,
     input: &mut T,
-    rows: &[AttributeRow],
+    rows: &Rows,
     table: &[Attribute],
     slot: Slot,
-    out: &mut [u8],
-    start: Option<usize>,
-) -> Option<usize>
-    requires fits { length out.old < 2 ^ 32 }
+    pen: &mut Pen<'_>,
+)
+    requires fits { length pen.old.out.now < 2 ^ 32 }
     requires sound { AllByRecursion (Standing (meaning (S.Source.content source.old))) rows.now }
     requires simple { AllByRecursion Plain table.now }
     requires meant { (σ : spec.Slot) × SlotMeans (meaning (T.Source.content input.old)) slot σ }
     ensures same { S.Source.content source.new ≡ S.Source.content source.old }
     ensures kept { T.Source.content input.new ≡ T.Source.content input.old }
     ensures value { (σ : spec.Slot) → SlotMeans (meaning (T.Source.content input.old)) slot σ
-        → Penned out.old start
+        → Wrote pen.old
         (attributes_after (meaning (S.Source.content source.old)) rows.now σ table.now)
-        out.new result }
+        pen.new }
 {
-    let mut here = start;
     for attribute in table {
-        here = write_changed_attribute(source, input, rows, *attribute, slot, out, here);
+        write_changed_attribute(source, input, rows, *attribute, slot, pen);
     }
-    here
 }

@@ -27,23 +27,14 @@ pub struct Touch {
     pub listing: Listing,
 }
 
-// To the rows of a message.
+// To the rows or the attachments of a message.
 #[derive(Clone, Copy)]
-pub enum Rowing {
-    AsTheyAre,
+pub enum Change<T> {
+    Kept,
+    // A row without properties, or an attachment whose rendering is all of the input.
     Added,
     Removed(usize),
-    Changed(usize, Listing),
-}
-
-// To the attachments of a message.
-#[derive(Clone, Copy)]
-pub enum Attaching {
-    AsBefore,
-    // The rendering is all of the input.
-    Added,
-    Removed(usize),
-    Changed(usize, Touch),
+    Changed(usize, T),
 }
 
 #[derive(Clone, Copy)]
@@ -51,6 +42,6 @@ pub struct Amendment {
     // Whether the input is a new code page.
     pub page: bool,
     pub own: Touch,
-    pub rows: Rowing,
-    pub attachments: Attaching,
+    pub rows: Change<Listing>,
+    pub attachments: Change<Touch>,
 }

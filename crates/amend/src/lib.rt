@@ -13,7 +13,7 @@ mod tables;
 mod touches;
 mod wholes;
 
-pub use changes::{Amendment, Attaching, Listing, Rowing, Slot, Touch};
+pub use changes::{Amendment, Change, Listing, Slot, Touch};
 pub use lists::write_changed_properties;
 pub use tables::write_changed_recipients;
 pub use wholes::amend;

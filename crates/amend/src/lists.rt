@@ -2,7 +2,7 @@
 ghost use Rattle.std.specs.Prelude.{◌≡◌, ◌^◌, ◌<◌, ◌≤◌, [], length, take};
 ghost use Rattle.std.specs.List.{flat_map, AllByRecursion};
 ghost use Rattle.source.specs.Content.{meaning};
-ghost use Rattle.pen.specs.Pen.{Penned};
+ghost use Rattle.pen.specs.Pen.{Wrote};
 ghost use Rattle.property.specs.Lists.{list_limit, indexed};
 ghost use Rattle.stream.specs.Messages.{or_default, as_list};
 ghost use Rattle.stream.specs.Reading.{properties};
@@ -16,15 +16,16 @@ ghost use Rattle.amend.specs.Cuts.{ListIndexed};
 use crate::changes::Listing;
 use crate::cuts::{cut_count, cut_of, write_cut};
 use attribute::Attribute;
-use form::{pen_close, pen_open, row_under};
-use index::{AttributeRow, PropertyRow};
+use form::{Rows, pen_close, pen_open};
+use index::PropertyRow;
+use pen::Pen;
 use property::rows as rows_at;
 use source::Source;
 
 // Indexes the list under an attribute's id, and says how many rows it has: none where there is no frame.
 fn index_list<S: Source>(
     source: &mut S,
-    rows: &[AttributeRow],
+    rows: &Rows,
     attribute: Attribute,
     lent: &mut [PropertyRow],
 ) -> usize
@@ -37,27 +38,25 @@ fn index_list<S: Source>(
         (or_default (told_in as_list attribute.id (meaning (S.Source.content source.old)) rows.now) []) }
 {
     let _total = source.len();
-    match row_under(rows, attribute.id) {
-        Some(row) => match rows_at(source, row.place, row.place + row.size, lent) {
-            Ok(listed) => listed.count,
-            Err(_) => unreachable(),
-        },
-        None => 0,
-    }
+    let Some(row) = rows.under(attribute.id) else {
+        return 0;
+    };
+    rows_at(source, row.place, row.place + row.size, lent)
+        .unwrap()
+        .count
 }
 
 // The frame of the changed list of properties under an attribute's id.
 pub fn write_changed_properties<S: Source, T: Source>(
     source: &mut S,
     input: &mut T,
-    rows: &[AttributeRow],
+    rows: &Rows,
     attribute: Attribute,
     listing: Listing,
     lent: &mut [PropertyRow],
-    out: &mut [u8],
-    here: Option<usize>,
-) -> Option<usize>
-    requires fits { length out.old < 2 ^ 32 }
+    pen: &mut Pen<'_>,
+)
+    requires fits { length pen.old.out.now < 2 ^ 32 }
     requires room { list_limit ≤ length lent.old }
     requires sound { AllByRecursion (Standing (meaning (S.Source.content source.old))) rows.now }
     requires listed { Natured properties attribute }
@@ -65,17 +64,17 @@ pub fn write_changed_properties<S: Source, T: Source>(
     ensures same { S.Source.content source.new ≡ S.Source.content source.old }
     ensures kept { T.Source.content input.new ≡ T.Source.content input.old }
     ensures value { (l : spec.Listing) → ListingMeans (meaning (T.Source.content input.old)) listing l
-        → Penned out.old here
+        → Wrote pen.old
         (flat_map write_entry (list_entries attribute.id (spec.list_after l (indexed (or_default (told_in as_list attribute.id (meaning (S.Source.content source.old)) rows.now) [])))))
-        out.new result }
+        pen.new }
 {
     let count = index_list(source, rows, attribute, lent);
     let found = &lent[0..count];
     let cut = cut_of(found, listing);
     if cut_count(found.len(), &cut) == 0 {
-        return here;
+        return;
     }
-    let body = pen_open(out, here);
-    let end = write_cut(source, input, found, &cut, out, body);
-    pen_close(out, here, end, attribute.level, attribute.id)
+    let start = pen_open(pen);
+    write_cut(source, input, found, &cut, pen);
+    pen_close(pen, start, attribute.level, attribute.id);
 }

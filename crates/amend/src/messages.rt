@@ -2,7 +2,7 @@
 ghost use Rattle.std.specs.Prelude.{◌≡◌, ◌^◌, ◌<◌, ◌≤◌, length};
 ghost use Rattle.std.specs.List.{AllByRecursion};
 ghost use Rattle.source.specs.Content.{meaning};
-ghost use Rattle.pen.specs.Pen.{Penned};
+ghost use Rattle.pen.specs.Pen.{Wrote};
 ghost use Rattle.property.specs.Lists.{list_limit};
 ghost use Rattle.form.specs.Targets.{Standing};
 ghost use Rattle.editing.specs.Amendments as spec;
@@ -10,25 +10,25 @@ ghost use Rattle.amend.specs.Changes.{TouchMeans, RowingMeans};
 ghost use Rattle.amend.specs.Parts.{message_after};
 
 use crate::attributes::write_changed_attributes;
-use crate::changes::{Rowing, Touch};
+use crate::changes::{Change, Listing, Touch};
 use crate::lists::write_changed_properties;
 use crate::tables::write_changed_recipients;
-use form::{MESSAGE_PROPERTIES, message_table};
-use index::{AttributeRow, PropertyRow};
+use form::{MESSAGE_PROPERTIES, Rows, message_table};
+use index::PropertyRow;
+use pen::Pen;
 use source::Source;
 
 // The message's attributes, recipients and properties.
 pub fn write_changed_message<S: Source, T: Source>(
     source: &mut S,
     input: &mut T,
-    rows: &[AttributeRow],
+    rows: &Rows,
     touch: Touch,
-    rowing: Rowing,
+    rowing: Change<Listing>,
     lent: &mut [PropertyRow],
-    out: &mut [u8],
-    here: Option<usize>,
-) -> Option<usize>
-    requires fits { length out.old < 2 ^ 32 }
+    pen: &mut Pen<'_>,
+)
+    requires fits { length pen.old.out.now < 2 ^ 32 }
     requires room { list_limit ≤ length lent.old }
     requires sound { AllByRecursion (Standing (meaning (S.Source.content source.old))) rows.now }
     requires meant { (τ : spec.Touch) × TouchMeans (meaning (T.Source.content input.old)) touch τ }
@@ -37,12 +37,11 @@ pub fn write_changed_message<S: Source, T: Source>(
     ensures kept { T.Source.content input.new ≡ T.Source.content input.old }
     ensures value { (τ : spec.Touch) → TouchMeans (meaning (T.Source.content input.old)) touch τ
         → (ρ : spec.Rowing) → RowingMeans (meaning (T.Source.content input.old)) rowing ρ
-        → Penned out.old here
-        (message_after (meaning (S.Source.content source.old)) rows.now τ ρ) out.new result }
+        → Wrote pen.old
+        (message_after (meaning (S.Source.content source.old)) rows.now τ ρ) pen.new }
 {
-    let table = message_table();
-    let attributes = write_changed_attributes(source, input, rows, table, touch.slot, out, here);
-    let recipients = write_changed_recipients(source, input, rows, rowing, lent, out, attributes);
+    write_changed_attributes(source, input, rows, message_table(), touch.slot, pen);
+    write_changed_recipients(source, input, rows, rowing, lent, pen);
     write_changed_properties(
         source,
         input,
@@ -50,7 +49,6 @@ pub fn write_changed_message<S: Source, T: Source>(
         MESSAGE_PROPERTIES,
         touch.listing,
         lent,
-        out,
-        recipients,
-    )
+        pen,
+    );
 }

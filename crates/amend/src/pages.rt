@@ -3,7 +3,7 @@ ghost use Rattle.std.specs.Prelude.{◌≡◌, ℕ, ◌^◌, ◌<◌, length, So
 ghost use Rattle.std.specs.List.{AllByRecursion};
 ghost use Rattle.source.specs.Content.{meaning};
 ghost use Rattle.attribute.specs.Table.{code_page_id};
-ghost use Rattle.pen.specs.Pen.{Penned};
+ghost use Rattle.pen.specs.Pen.{Wrote};
 ghost use Rattle.stream.specs.Messages.{as_primary};
 ghost use Rattle.form.specs.Targets.{Standing};
 ghost use Rattle.form.specs.Holdings.{told_in};
@@ -11,31 +11,30 @@ ghost use Rattle.amend.specs.Changes.{PageMeans};
 ghost use Rattle.amend.specs.Parts.{page_after};
 
 use crate::attributes::write_input;
-use form::{CODE_PAGE, write_page};
-use index::AttributeRow;
+use form::{CODE_PAGE, Rows, write_page};
+use pen::Pen;
 use source::Source;
 
 // The frame of the code page: the input where it is a new one.
 pub fn write_changed_page<S: Source, T: Source>(
     source: &mut S,
     input: &mut T,
-    rows: &[AttributeRow],
+    rows: &Rows,
     page: bool,
-    out: &mut [u8],
-    here: Option<usize>,
-) -> Option<usize>
-    requires fits { length out.old < 2 ^ 32 }
+    pen: &mut Pen<'_>,
+)
+    requires fits { length pen.old.out.now < 2 ^ 32 }
     requires sound { AllByRecursion (Standing (meaning (S.Source.content source.old))) rows.now }
     requires meant { (o : Option ℕ) × PageMeans (meaning (T.Source.content input.old)) page o }
     ensures same { S.Source.content source.new ≡ S.Source.content source.old }
     ensures kept { T.Source.content input.new ≡ T.Source.content input.old }
     ensures value { (n : ℕ) → told_in as_primary code_page_id (meaning (S.Source.content source.old)) rows.now ≡ Some n
         → (o : Option ℕ) → PageMeans (meaning (T.Source.content input.old)) page o
-        → Penned out.old here (page_after (meaning (S.Source.content source.old)) rows.now o) out.new result }
+        → Wrote pen.old (page_after (meaning (S.Source.content source.old)) rows.now o) pen.new }
 {
     if page {
-        write_input(input, CODE_PAGE, out, here)
+        write_input(input, CODE_PAGE, pen);
     } else {
-        write_page(source, rows, out, here)
+        write_page(source, rows, pen);
     }
 }

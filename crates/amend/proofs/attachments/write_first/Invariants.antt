@@ -1,4 +1,4 @@
-use Rattle.std.proofs.Common.{◌≡◌, take, drop}
+use Rattle.std.proofs.Common.{◌≡◌, ◌-◌, length, take, drop}
 use Rattle.source.specs.Content.{meaning}
 use Rattle.pen.specs.Pen.{Leads}
 use Rattle.form.specs.Targets.{remaining, Readable}
@@ -6,17 +6,12 @@ use Rattle.form.specs.Wholes.{Rendered}
 use Rattle.amend.specs.Attachments.{attachments_in, attachments_bytes}
 use Rattle.amend.proofs.attachments.write_first.Given as goal
 
-abbrev pub invariant-loop-left : goal.invariant-loop-left
-invariant-loop-left g l =
-    (g.S.Source.content l.source ≡ g.S.Source.content l.initial.source)
-    × Readable (meaning (g.S.Source.content l.initial.source)) l.place l.stage
-    × Rendered (remaining (meaning (g.S.Source.content l.initial.source)) l.place l.stage)
-    × (drop l.left (attachments_in (remaining (meaning (g.S.Source.content l.initial.source)) l.place l.stage))
-    ≡ drop l.initial.left (attachments_in (remaining (meaning (g.S.Source.content l.initial.source)) l.initial.place l.initial.stage)))
-    × Leads l.initial.out l.initial.here
-    (attachments_bytes (take l.initial.left (attachments_in (remaining (meaning (g.S.Source.content l.initial.source)) l.initial.place l.initial.stage))))
-    l.out l.here
-    (attachments_bytes (take l.left (attachments_in (remaining (meaning (g.S.Source.content l.initial.source)) l.place l.stage))))
-
-abbrev pub decreases-loop-left : goal.decreases-loop-left
-decreases-loop-left g l = l.left
+abbrev pub invariant-loop : goal.invariant-loop
+invariant-loop g l =
+    let xs = meaning (g.S.Source.content l.initial.source) in
+    let all = attachments_in (remaining xs l.initial.at.place l.initial.at.stage) in
+    let left = attachments_in (remaining xs l.at.place l.at.stage) in
+    (g.S.Source.content l.source ≡ g.S.Source.content l.initial.source) × (length l.pen.out.now ≡ length l.initial.pen.out.now)
+    × Readable xs l.at.place l.at.stage × Rendered (remaining xs l.at.place l.at.stage)
+    × (drop (l.count - l.counter) left ≡ drop l.count all)
+    × Leads l.initial.pen (attachments_bytes (take l.count all)) l.pen (attachments_bytes (take (l.count - l.counter) left))

@@ -1,4 +1,4 @@
-use Rattle.std.proofs.Common.{◌≡◌, drop}
+use Rattle.std.proofs.Common.{◌≡◌, length, drop}
 use Rattle.source.specs.Content.{meaning}
 use Rattle.pen.specs.Pen.{Leads}
 use Rattle.editing.specs.Amendments as spec
@@ -8,10 +8,9 @@ use Rattle.amend.proofs.attributes.write_changed_attributes.Given as goal
 
 abbrev pub invariant-loop-attribute : goal.invariant-loop-attribute
 invariant-loop-attribute g l =
+    let xs = meaning (g.S.Source.content l.initial.source) in
     (g.S.Source.content l.source ≡ g.S.Source.content l.initial.source)
     × (g.T.Source.content l.input ≡ g.T.Source.content l.initial.input)
+    × (length l.pen.out.now ≡ length l.initial.pen.out.now)
     × ((σ : spec.Slot) → SlotMeans (meaning (g.T.Source.content l.initial.input)) l.slot σ
-    → Leads l.initial.out l.initial.here
-    (attributes_after (meaning (g.S.Source.content l.initial.source)) l.rows σ l.table)
-    l.out l.here
-    (attributes_after (meaning (g.S.Source.content l.initial.source)) l.rows σ (drop l.attribute-index l.table)))
+    → Leads l.initial.pen (attributes_after xs l.rows σ l.table) l.pen (attributes_after xs l.rows σ (drop l.attribute-index l.table)))

@@ -7,27 +7,26 @@ use Rattle.form.proofs.Tells.{recipients_known}
 use Rattle.amend.proofs.Counts.{table_there, table_none}
 use Rattle.amend.proofs.tables.table_in.Goals as goal
 
+pub returns-in_default-clause-value : goal.returns-in_default-clause-value
+returns-in_default-clause-value g c = table_none (meaning (g.S.Source.content c.args.source.now)) c.args.rows.now c.in_default.ensures
+
 pub number_at-count-requires : goal.number_at-count-requires
 number_at-count-requires g c =
-    (table_held (meaning (g.S.Source.content c.args.source.now)) c.args.rows.now c.requires (attribute recipients_id 1 Recipients) c.in-Some.row c.in-Some.ensures recipients_known refl).1.room
+    let (_, h) = table_held (meaning (g.S.Source.content c.args.source.now)) c.args.rows.now c.requires (attribute recipients_id 1 Recipients) c.in-Some.row c.in-Some.ensures recipients_known refl in
+    omega (arith, h.room, h.within)
 
 pub overflow_add-result : goal.overflow_add-result
 overflow_add-result g c =
     let (_, h) = table_held (meaning (g.S.Source.content c.args.source.now)) c.args.rows.now c.requires (attribute recipients_id 1 Recipients) c.in-Some.row c.in-Some.ensures recipients_known refl in
-    omega (arith, h.room, c.len-total.ensures.value, c.len-total.type_inv)
+    omega (arith, h.room, h.within, c.len-total.ensures.value, c.len-total.ensures.bound)
 
-pub overflow_add-result-in-Some : goal.overflow_add-result-in-Some
-overflow_add-result-in-Some g c =
+pub overflow_add-result-2 : goal.overflow_add-result-2
+overflow_add-result-2 g c =
     let (_, h) = table_held (meaning (g.S.Source.content c.args.source.now)) c.args.rows.now c.requires (attribute recipients_id 1 Recipients) c.in-Some.row c.in-Some.ensures recipients_known refl in
-    omega (arith, h.within, c.len-total.ensures.value, c.len-total.type_inv)
+    omega (arith, h.within, c.len-total.ensures.value, c.len-total.ensures.bound)
 
-pub returns-in-Some : goal.returns-in-Some
-returns-in-Some g c =
+pub returns-clause-value : goal.returns-clause-value
+returns-clause-value g c =
     let xs = meaning (g.S.Source.content c.args.source.now) in
     let (ts, h) = table_held xs c.args.rows.now c.requires (attribute recipients_id 1 Recipients) c.in-Some.row c.in-Some.ensures recipients_known refl in
-    let n = c.number_at-count.ensures in
-    record { same = n.same; value = table_there xs c.args.rows.now c.in-Some.row ts h c.number_at-count.result n.value }
-
-pub returns-in-None : goal.returns-in-None
-returns-in-None g c =
-    record { same = refl; value = table_none (meaning (g.S.Source.content c.args.source.now)) c.args.rows.now c.in-None.ensures }
+    table_there xs c.args.rows.now c.in-Some.row ts h _ c.number_at-count.ensures.value
