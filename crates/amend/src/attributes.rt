@@ -13,7 +13,7 @@ ghost use Rattle.amend.specs.Parts.{attribute_after, attributes_after};
 
 use crate::changes::Slot;
 use attribute::Attribute;
-use form::{Rows, write_attribute, write_row};
+use form::{write_attribute, write_row};
 use index::AttributeRow;
 use pen::Pen;
 use source::Source;
@@ -40,7 +40,7 @@ pub fn write_input<T: Source>(input: &mut T, attribute: Attribute, pen: &mut Pen
 pub fn write_changed_attribute<S: Source, T: Source>(
     source: &mut S,
     input: &mut T,
-    rows: &Rows,
+    rows: &[AttributeRow],
     attribute: Attribute,
     slot: Slot,
     pen: &mut Pen<'_>,
@@ -67,7 +67,7 @@ pub fn write_changed_attribute<S: Source, T: Source>(
 pub fn write_changed_attributes<S: Source, T: Source>(
     source: &mut S,
     input: &mut T,
-    rows: &Rows,
+    rows: &[AttributeRow],
     table: &[Attribute],
     slot: Slot,
     pen: &mut Pen<'_>,

@@ -16,8 +16,8 @@ ghost use Rattle.amend.specs.Cuts.{ListIndexed};
 use crate::changes::Listing;
 use crate::cuts::{cut_count, cut_of, write_cut};
 use attribute::Attribute;
-use form::{Rows, pen_close, pen_open};
-use index::PropertyRow;
+use form::{pen_close, pen_open, row_under};
+use index::{AttributeRow, PropertyRow};
 use pen::Pen;
 use property::rows as rows_at;
 use source::Source;
@@ -25,7 +25,7 @@ use source::Source;
 // Indexes the list under an attribute's id, and says how many rows it has: none where there is no frame.
 fn index_list<S: Source>(
     source: &mut S,
-    rows: &Rows,
+    rows: &[AttributeRow],
     attribute: Attribute,
     lent: &mut [PropertyRow],
 ) -> usize
@@ -38,7 +38,7 @@ fn index_list<S: Source>(
         (or_default (told_in as_list attribute.id (meaning (S.Source.content source.old)) rows.now) []) }
 {
     let _total = source.len();
-    let Some(row) = rows.under(attribute.id) else {
+    let Some(row) = row_under(rows, attribute.id) else {
         return 0;
     };
     rows_at(source, row.place, row.place + row.size, lent)
@@ -50,7 +50,7 @@ fn index_list<S: Source>(
 pub fn write_changed_properties<S: Source, T: Source>(
     source: &mut S,
     input: &mut T,
-    rows: &Rows,
+    rows: &[AttributeRow],
     attribute: Attribute,
     listing: Listing,
     lent: &mut [PropertyRow],

@@ -13,8 +13,8 @@ use crate::attributes::write_changed_attributes;
 use crate::changes::{Change, Listing, Touch};
 use crate::lists::write_changed_properties;
 use crate::tables::write_changed_recipients;
-use form::{MESSAGE_PROPERTIES, Rows, message_table};
-use index::PropertyRow;
+use form::{MESSAGE_PROPERTIES, message_table};
+use index::{AttributeRow, PropertyRow};
 use pen::Pen;
 use source::Source;
 
@@ -22,7 +22,7 @@ use source::Source;
 pub fn write_changed_message<S: Source, T: Source>(
     source: &mut S,
     input: &mut T,
-    rows: &Rows,
+    rows: &[AttributeRow],
     touch: Touch,
     rowing: Change<Listing>,
     lent: &mut [PropertyRow],

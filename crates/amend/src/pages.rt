@@ -11,7 +11,8 @@ ghost use Rattle.amend.specs.Changes.{PageMeans};
 ghost use Rattle.amend.specs.Parts.{page_after};
 
 use crate::attributes::write_input;
-use form::{CODE_PAGE, Rows, write_page};
+use form::{CODE_PAGE, write_page};
+use index::AttributeRow;
 use pen::Pen;
 use source::Source;
 
@@ -19,7 +20,7 @@ use source::Source;
 pub fn write_changed_page<S: Source, T: Source>(
     source: &mut S,
     input: &mut T,
-    rows: &Rows,
+    rows: &[AttributeRow],
     page: bool,
     pen: &mut Pen<'_>,
 )

@@ -16,8 +16,8 @@ ghost use Rattle.amend.specs.Tables.{turn_of, TurnMeans, added_bytes, count_afte
 use crate::changes::{Change, Listing};
 use crate::cuts::{cut_of, write_cut};
 use attribute::ATT_RECIPIENTS;
-use form::{Rows, pen_close, pen_open};
-use index::PropertyRow;
+use form::{pen_close, pen_open, row_under};
+use index::{AttributeRow, PropertyRow};
 use listform::number_at;
 use pen::Pen;
 use property::rows as rows_at;
@@ -97,14 +97,14 @@ fn write_turns<S: Source, T: Source>(
 }
 
 // The table that stands under the recipients' id; one without rows where there is no frame.
-fn table_in<S: Source>(source: &mut S, rows: &Rows) -> Tabled
+fn table_in<S: Source>(source: &mut S, rows: &[AttributeRow]) -> Tabled
     requires { AllByRecursion (Standing (meaning (S.Source.content source.old))) rows.now }
     ensures same { S.Source.content source.new ≡ S.Source.content source.old }
     ensures value { TableRead (meaning (S.Source.content source.old)) result
         (or_default (told_in as_table recipients_id (meaning (S.Source.content source.old)) rows.now) []) }
 {
     let _total = source.len();
-    let Some(row) = rows.under(ATT_RECIPIENTS) else {
+    let Some(row) = row_under(rows, ATT_RECIPIENTS) else {
         return Tabled {
             count: 0,
             place: 0,
@@ -144,7 +144,7 @@ fn write_added(rowing: Change<Listing>, pen: &mut Pen<'_>)
 pub fn write_changed_recipients<S: Source, T: Source>(
     source: &mut S,
     input: &mut T,
-    rows: &Rows,
+    rows: &[AttributeRow],
     rowing: Change<Listing>,
     lent: &mut [PropertyRow],
     pen: &mut Pen<'_>,

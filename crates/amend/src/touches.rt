@@ -15,9 +15,9 @@ use crate::attachments::write_first;
 use crate::attributes::{write_changed_attribute, write_changed_attributes};
 use crate::changes::Touch;
 use crate::lists::write_changed_properties;
-use form::{ATTACHMENT_PROPERTIES, RENDERING, Rows, attachment_table, gather, write_attachments};
+use form::{ATTACHMENT_PROPERTIES, RENDERING, attachment_table, gather, write_attachments};
 use frame::Cursor;
-use index::PropertyRow;
+use index::{AttributeRow, PropertyRow};
 use pen::Pen;
 use source::Source;
 
@@ -25,7 +25,7 @@ use source::Source;
 pub fn write_touched_attachment<S: Source, T: Source>(
     source: &mut S,
     input: &mut T,
-    rows: &Rows,
+    rows: &[AttributeRow],
     touch: Touch,
     lent: &mut [PropertyRow],
     pen: &mut Pen<'_>,
@@ -82,6 +82,6 @@ pub fn write_touched<S: Source, T: Source>(
         return;
     }
     let rows = gather(source, &mut at);
-    write_touched_attachment(source, input, &rows, touch, lent, pen);
+    write_touched_attachment(source, input, rows.as_slice(), touch, lent, pen);
     write_attachments(source, at, lent, pen);
 }

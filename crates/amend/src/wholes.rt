@@ -42,15 +42,8 @@ pub fn amend<S: Source, T: Source>(
     write_front(pen);
     let mut at = Cursor::FIRST;
     let rows = gather(source, &mut at);
-    write_changed_page(source, input, &rows, amendment.page, pen);
-    write_changed_message(
-        source,
-        input,
-        &rows,
-        amendment.own,
-        amendment.rows,
-        lent,
-        pen,
-    );
+    let own = rows.as_slice();
+    write_changed_page(source, input, own, amendment.page, pen);
+    write_changed_message(source, input, own, amendment.own, amendment.rows, lent, pen);
     write_changed_attachments(source, input, at, amendment.attachments, lent, pen);
 }

@@ -28,4 +28,4 @@ returns-clause-value g c = λ τ m.
     let v = rw n.same at t.value in
     let f = first_parted _ _ _ n.value.good τ n.value.rendered (omega (arith, c.if-at-total.false, c.len-total.ensures.value)) _ _ _ v in
     rw (change_bytes _ c.args.number τ _ n.value.rest)
-    (n.value.penned ▷ rw f ((rw (t.same ∙ n.same) at (w.value τ m)) ▷ (rw (w.same ∙ t.same ∙ n.same) at a.value)))
+    (n.value.penned ▷ rw f ((rw (t.same ∙ n.same, c.as_slice.ensures) at (w.value τ m)) ▷ (rw (w.same ∙ t.same ∙ n.same) at a.value)))

@@ -13,7 +13,7 @@ write_changed_message-requires-clause-fits g c =
     let t = c.gather-rows.ensures in
     let (n, k, _) = page_told _ _ _ _ c.requires.good t.value in
     let (α, h) = c.requires.meant in
-    let p = (rw t.same at c.write_changed_page.ensures.value) n k α.page h.page in
+    let p = (rw (t.same, c.as_slice-own.ensures) at c.write_changed_page.ensures.value) n k α.page h.page in
     rw (p.kept, c.write_front.ensures.kept) c.requires.fits
 
 pub write_changed_attachments-requires-clause-fits : goal.write_changed_attachments-requires-clause-fits
@@ -22,7 +22,7 @@ write_changed_attachments-requires-clause-fits g c =
     let (n, k, _) = page_told _ _ _ _ c.requires.good t.value in
     let (α, h) = c.requires.meant in
     let q = c.write_changed_page.ensures in
-    let p = (rw t.same at q.value) n k α.page h.page in
+    let p = (rw (t.same, c.as_slice-own.ensures) at q.value) n k α.page h.page in
     let m = c.write_changed_message.ensures.value α.own (touch_moved q.kept h.own) α.rows (rowing_moved q.kept c.args.amendment.rows α.rows h.rows) in
     rw (m.kept, p.kept, c.write_front.ensures.kept) c.requires.fits
 
@@ -42,6 +42,6 @@ returns-clause-value g c = λ α h.
     let (n, k, _) = page_told xs _ _ _ c.requires.good t.value in
     rw (← form_amended xs _ _ _ c.requires.good t.value α)
     (c.write_front.ensures
-    ▷ ((rw t.same at p.value) n k α.page h.page
-    ▷ ((rw (p.same ∙ t.same) at (m.value α.own (touch_moved p.kept h.own) α.rows (rowing_moved p.kept c.args.amendment.rows α.rows h.rows)))
+    ▷ ((rw (t.same, c.as_slice-own.ensures) at p.value) n k α.page h.page
+    ▷ ((rw (p.same ∙ t.same, c.as_slice-own.ensures) at (m.value α.own (touch_moved p.kept h.own) α.rows (rowing_moved p.kept c.args.amendment.rows α.rows h.rows)))
     ▷ (rw (m.same ∙ p.same ∙ t.same) at (a.value α.attachments (attaching_moved (m.kept ∙ p.kept) c.args.amendment.attachments α.attachments h.attachments))))))
