@@ -6,7 +6,7 @@ use Rattle.source.specs.Outcome.{refused}
 use Rattle.source.specs.declared.refusals.Reason.TheVariants.{ShortWork, FormTooLong}
 use Rattle.source.specs.Bytes.{le}
 use Rattle.scan.specs.Scans.{checksum}
-use Rattle.pen.proofs.Pens.{le_four}
+use Rattle.scan.proofs.Numbers.{le_four}
 use Rattle.attribute.specs.Table.{attribute_of}
 use Rattle.contents.specs.Contents.{normal}
 use Rattle.stream.specs.Writing.{write_entry, attribute_entries, entries_in, written}

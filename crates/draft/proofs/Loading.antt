@@ -6,7 +6,7 @@ use Rattle.source.specs.Content.{source_limit}
 use Rattle.source.specs.Outcome.{Outcome, ◌>>=◌, ◌>>◌, need, over, refused}
 use Rattle.source.specs.declared.refusals.Reason.TheVariants.{ShortWork, FormTooLong}
 use Rattle.source.specs.declared.refusals.Refusal.{Refusal}
-use Rattle.source.proofs.Outcomes.{err_not_ok, ok_same, over_over}
+use Rattle.source.proofs.Outcomes.{err_not_ok, need_got, ok_same, over_over}
 use Rattle.property.specs.Lists.{list_limit}
 use Rattle.stream.specs.Messages.{Message, read}
 use Rattle.stream.specs.Writing.{written}
@@ -20,6 +20,18 @@ is_enough w room h k = and_from (leb room w.bytes) (leb list_limit w.rows) (le-l
 pub not_enough : (w : Memory) (room : ℕ) → (w.bytes < room) ⊎ ((room ≤ w.bytes) × (w.rows < list_limit)) → enough w room ≡ false
 not_enough w room (inl h) = and_left (leb room w.bytes) (leb list_limit w.rows) (lt-leb room w.bytes h)
 not_enough w room (inr h) = and_right (leb room w.bytes) (leb list_limit w.rows) (lt-leb list_limit w.rows h.1)
+
+-- What the check of work memory tells.
+pub enough_got : (w : Memory) (room : ℕ) (u : Unit {0}) → Ok u ≡ need (enough w room) ShortWork 0 → (room ≤ w.bytes) × (list_limit ≤ w.rows)
+enough_got w room u e =
+    let t = and_parts _ _ (need_got (enough w room) ShortWork 0 u e) in (leb-true room w.bytes t.0, leb-true list_limit w.rows t.1)
+
+pub enough_lost : (w : Memory) (room : ℕ) (r : Refusal) → Err r ≡ need (enough w room) ShortWork 0 → (enough w room ≡ false) × (r ≡ record { reason = ShortWork; place = 0 })
+enough_lost w room r e = by_test (enough w room) e
+  where
+    by_test : (b : Bool) → Err r ≡ need b ShortWork 0 → (b ≡ false) × (r ≡ record { reason = ShortWork; place = 0 })
+    by_test true e = absurd (err_not_ok e)
+    by_test false e = (refl, cc)
 
 module _ (w : Memory) (room : ℕ) (xs : List ℕ) where
   pub short : enough w room ≡ false → loaded w room xs ≡ refused ShortWork 0

@@ -4,6 +4,7 @@
 ghost use Rattle.std.specs.Prelude.{◌≡◌, ◌-◌, ◌≤◌, ◌++◌, length, take, replicate, IfOk};
 ghost use Rattle.source.specs.Bytes.{le};
 ghost use Rattle.scan.specs.Scans.{checksum};
+ghost use Rattle.pen.specs.Pen.{Wrote};
 ghost use Rattle.form.specs.Wholes.{Fills};
 ghost use Rattle.source.specs.Content.{meaning};
 ghost use Rattle.source.specs.declared.refusals.Reason.TheVariants.{ShortWork};
@@ -96,15 +97,21 @@ fn sum_of(number: u32) -> u16
     u16::from(a) + u16::from(b) + u16::from(c) + u16::from(d)
 }
 
-// A blank form at the front of a slice: how long it is, if it fits.
-fn pen_blank(out: &mut [u8], primary: u32) -> Option<usize>
-    ensures { Fills out.old (written (blank primary)) out.new result }
+fn pen_blank(pen: &mut Pen<'_>, primary: u32)
+    ensures { Wrote pen.old (written (blank primary)) pen.new }
 {
-    let mut pen = Pen::new(out);
     pen.put(FRONT);
     pen.put_le(primary);
     pen.put_le(0u32);
     pen.put_le(sum_of(primary));
+}
+
+// A blank form at the front of a slice: how long it is, if it fits.
+fn fill_blank(out: &mut [u8], primary: u32) -> Option<usize>
+    ensures { Fills out.old (written (blank primary)) out.new result }
+{
+    let mut pen = Pen::new(out);
+    pen_blank(&mut pen, primary);
     pen.here
 }
 
@@ -119,7 +126,7 @@ fn begin_within(
     ensures form { Front (begun (memory bytes.old rows.now) room primary) bytes.new }
 {
     enough(bytes, rows, room)?;
-    let Some(n) = pen_blank(&mut bytes[0..room], primary) else {
+    let Some(n) = fill_blank(&mut bytes[0..room], primary) else {
         return Err(Refusal {
             reason: Reason::FormTooLong,
             place: 0,

@@ -31,10 +31,10 @@ fn is_written(form: &[u8], bytes: &mut [u8], rows: &mut [PropertyRow]) -> Result
     let Ok(n) = restate(&mut source, rows, bytes) else {
         return Err(NOT_WRITTEN);
     };
-    if &bytes[0..n] != form {
-        return Err(NOT_WRITTEN);
+    if &bytes[0..n] == form {
+        return Ok(());
     }
-    Ok(())
+    Err(NOT_WRITTEN)
 }
 
 // Refuses work memory that is too little, and a draft that is not a written form.

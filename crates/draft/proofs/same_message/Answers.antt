@@ -54,7 +54,7 @@ returns g c =
     let z = rw w at (rw (h.bytes, h.rows) at k.size) in
     let f = form_after _ _ _ _ _ _ h.outcome h.area h.size in
     let q = form_after _ _ _ _ _ _ o a z in
-    let e = rw (c.form.ensures, c.form-2.ensures) at c.equal.ensures in
+    let e = rw (c.form.ensures, c.form-2.ensures) at c.eq.ensures in
     let sx : SourceBytes (meaning (g.A.Source.content c.args.first.now)) = (c.len-octets.ensures.octets, omega arith) in
     let sy : SourceBytes (meaning (g.B.Source.content c.args.second.now)) = (c.len-octets2.ensures.octets, omega arith) in
     record {

@@ -23,8 +23,8 @@ returns-in_err-attribute g c =
     let (h, there) = target_got m c.args.target _ t.value in
     rw (p.1, p.2) (record { same = t.same; checks = drop_unnamed m c.args.target c.args.id h there _ c.in_err-attribute.ensures })
 
-pub returns-in-Some : goal.returns-in-Some
-returns-in-Some g c =
+pub returns : goal.returns
+returns g c =
     let t = c.in_ok-target_there.ensures in
     let m = message_in (meaning (g.S.Source.content c.args.source.now)) in
     let (h, there) = target_got m c.args.target _ t.value in
@@ -43,15 +43,15 @@ returns-in-Some g c =
       );
     }
 
-pub returns-in-None : goal.returns-in-None
-returns-in-None g c =
+pub returns-in_default : goal.returns-in_default
+returns-in_default g c =
     let t = c.in_ok-target_there.ensures in
     let m = message_in (meaning (g.S.Source.content c.args.source.now)) in
     let (h, there) = target_got m c.args.target _ t.value in
     let is = c.in_ok-attribute.ensures in
     let a = c.in_ok-attribute.attribute in
     let n = attribute_named c.args.target c.args.id may_drop a is in
-    let r = c.in-None.ensures in
+    let r = c.in_default.ensures in
     let q = r.value (plain_dropped c.args.target c.args.id a n) in
     record {
       same = r.same ∙ t.same;

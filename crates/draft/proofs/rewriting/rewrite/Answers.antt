@@ -5,8 +5,8 @@ use Rattle.source.specs.Outcome.{over}
 use Rattle.draft.proofs.Rewritten.{wrote_form, wrote_front, wrote_nothing}
 use Rattle.draft.proofs.rewriting.rewrite.Goals as goal
 
-pub returns-in-Some : goal.returns-in-Some
-returns-in-Some g c =
+pub returns : goal.returns
+returns g c =
     let (s, m) = c.in_ok-input.ensures in
     let v = rw m at c.in-Some.ensures.value in
     let l : length (take (c.min-most.result - 0) c.args.bytes.now) ≡ min c.args.room source_limit = omega (arith, length-take (c.min-most.result - 0) c.args.bytes.now, c.min-most.ensures, c.requires.fits) in
@@ -15,10 +15,10 @@ returns-in-Some g c =
       form = λ a h. wrote_front c.args.room _ _ _ _ l _ (v a h);
     }
 
-pub returns-in-None : goal.returns-in-None
-returns-in-None g c =
+pub returns-in_default : goal.returns-in_default
+returns-in_default g c =
     let (s, m) = c.in_ok-input.ensures in
-    let v = rw m at c.in-None.ensures.value in
+    let v = rw m at c.in_default.ensures.value in
     let l : length (take (c.min-most.result - 0) c.args.bytes.now) ≡ min c.args.room source_limit = omega (arith, length-take (c.min-most.result - 0) c.args.bytes.now, c.min-most.ensures, c.requires.fits) in
     record {
       outcome = λ a h. sym (ap (over length) (wrote_nothing c.args.room _ _ _ [] l (v a h)));
