@@ -1,8 +1,6 @@
-use Rattle.std.proofs.Common.{◌≡◌, min, length, refl, ◌∙◌, subst, arith}
+use Rattle.std.proofs.Common.{◌≡◌, min, length, ◌∙◌, arith}
 use Rattle.source.specs.Content.{meaning}
-use Rattle.property.specs.Lists.{list_at}
-use Rattle.lookup.specs.Listing.{Reaches}
-use Rattle.lookup.proofs.Reaching.{reach_none, reach_more, reach_lost}
+use Rattle.lookup.proofs.Reaching.{reach_more, reach_lost}
 use Rattle.lookup.proofs.lists.list_start.Goals as goal
 
 pub returns-in_default-clause-value : goal.returns-in_default-clause-value

@@ -1,4 +1,4 @@
-use Rattle.std.proofs.Common.{refl, arith}
+use Rattle.std.proofs.Common.{arith}
 use Rattle.source.specs.Content.{meaning}
 use Rattle.form.proofs.Found.{list_held}
 use Rattle.listform.proofs.ListForms.{list_in}
@@ -17,7 +17,7 @@ returns-in-Ok-clause-value g c =
     let (ps, h) = list_held xs c.args.rows.now c.requires.sound c.args.attribute c.in-Some.row c.in-Some.ensures c.requires.listed in
     let q = c.in-Ok.ensures in
     rw (list_told xs c.args.rows.now c.args.attribute.id ps h.told)
-        (carrying_list xs _ _ _ h.within c.requires.room _ (list_in xs _ _ ps h.reads) _ _ q.reads)
+    (carrying_list xs _ _ _ h.within c.requires.room _ (list_in xs _ _ ps h.reads) _ _ q.reads)
 
 pub returns-in-Err-clause-value : goal.returns-in-Err-clause-value
 returns-in-Err-clause-value g c =

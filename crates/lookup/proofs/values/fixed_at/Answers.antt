@@ -27,8 +27,8 @@ returns-then-number-count-clause-value g c =
     let xs = meaning (g.S.Source.content c.args.source.now) in
     let q = c.at.ensures in
     λ end start k a l e.
-        let (_, n, _) = fixed_all xs end start l k c.args.width c.args.place a c.args.several c.if-not-several.false e in
-        nth_past a.what c.args.number (omega (arith, (some_got _ _ _ _ _ _ c.in_ok-count.ensures.value q.value).1, c.if-number-count.true))
+    let (_, n, _) = fixed_all xs end start l k c.args.width c.args.place a c.args.several c.if-not-several.false e in
+    nth_past a.what c.args.number (omega (arith, (some_got _ _ _ _ _ _ c.in_ok-count.ensures.value q.value).1, c.if-number-count.true))
 
 pub overflow_add-place : goal.overflow_add-place
 overflow_add-place g c =
@@ -50,17 +50,17 @@ returns-clause-value g c =
     let w : c.padded.result ≡ padded c.args.width = c.padded.ensures ∙ ap padded c.from-size.ensures in
     let t : c.args.number * c.padded.result ≡ c.args.number * padded c.args.width = ap (λ n. c.args.number * n) w in
     λ end start k a l e.
-        let (_, n, r) = fixed_all xs end start l k c.args.width c.args.place a c.args.several c.if-not-several.false e in
-        let (u, v) = fixed_nth xs end start l k c.args.width _ _ a c.args.number r (omega (arith, (some_got _ _ _ _ _ _ c.in_ok-count.ensures.value q.value).1, c.if-number-count.false)) in (
-          omega (arith, u, t, c.from-size.ensures),
-          v ∙ ap (λ n. Some (value k (part xs (c.args.place + 4 + n) c.args.width))) (sym t)
-              ∙ ap (λ n. Some (value k (part xs (c.args.place + 4 + c.args.number * c.padded.result) n))) (sym c.from-size.ensures),
-        )
+    let (_, n, r) = fixed_all xs end start l k c.args.width c.args.place a c.args.several c.if-not-several.false e in
+    let (u, v) = fixed_nth xs end start l k c.args.width _ _ a c.args.number r (omega (arith, (some_got _ _ _ _ _ _ c.in_ok-count.ensures.value q.value).1, c.if-number-count.false)) in (
+      omega (arith, u, t, c.from-size.ensures),
+      v ∙ ap (λ n. Some (value k (part xs (c.args.place + 4 + n) c.args.width))) (sym t)
+          ∙ ap (λ n. Some (value k (part xs (c.args.place + 4 + c.args.number * c.padded.result) n))) (sym c.from-size.ensures),
+    )
 
 pub returns-in_err-count-clause-value : goal.returns-in_err-count-clause-value
 returns-in_err-count-clause-value g c =
     let xs = meaning (g.S.Source.content c.args.source.now) in
     let q = c.at.ensures in
     λ end start k a l e.
-        let (u, _, _) = fixed_all xs end start l k c.args.width c.args.place a c.args.several c.if-not-several.false e in
-        absurd (omega (arith, u, none_lost _ _ _ _ _ c.in_err-count.ensures.value q.value))
+    let (u, _, _) = fixed_all xs end start l k c.args.width c.args.place a c.args.several c.if-not-several.false e in
+    absurd (omega (arith, u, none_lost _ _ _ _ _ c.in_err-count.ensures.value q.value))

@@ -1,4 +1,4 @@
-use Rattle.std.proofs.Common.{sym, refl, ap, ◌∙◌, subst}
+use Rattle.std.proofs.Common.{sym, ap, ◌∙◌, subst}
 use Rattle.source.specs.Content.{meaning}
 use Rattle.property.specs.Kinds.{width}
 use Rattle.message.specs.Sameness.{nth}
@@ -18,12 +18,12 @@ returns-in-Fixed-clause-value g c =
     let s = c.in_ok-shape.shape in
     let q = c.fixed_at.ensures in
     λ end p l h.
-        let (start, a, reads, vs, t) = said_as xs end c.args.row.now p h s c.in_ok-shape.ensures in (
-          s,
-          t,
-          subst (λ ws. ValueStands xs s.kind (nth ws c.args.number) c.fixed_at.result) (sym vs)
-              (q.value end start s.kind a l (sym (shaped_fixed xs end start l s c.in-Fixed.width _ (ap width c.in-Fixed.is)) ∙ reads)),
-        )
+    let (start, a, reads, vs, t) = said_as xs end c.args.row.now p h s c.in_ok-shape.ensures in (
+      s,
+      t,
+      subst (λ ws. ValueStands xs s.kind (nth ws c.args.number) c.fixed_at.result) (sym vs)
+          (q.value end start s.kind a l (sym (shaped_fixed xs end start l s c.in-Fixed.width _ (ap width c.in-Fixed.is)) ∙ reads)),
+    )
 
 pub returns-in-YesNo-clause-value : goal.returns-in-YesNo-clause-value
 returns-in-YesNo-clause-value g c =
@@ -31,12 +31,12 @@ returns-in-YesNo-clause-value g c =
     let s = c.in_ok-shape.shape in
     let q = c.fixed_at-in-YesNo.ensures in
     λ end p l h.
-        let (start, a, reads, vs, t) = said_as xs end c.args.row.now p h s c.in_ok-shape.ensures in (
-          s,
-          t,
-          subst (λ ws. ValueStands xs s.kind (nth ws c.args.number) c.fixed_at-in-YesNo.result) (sym vs)
-              (q.value end start s.kind a l (sym (shaped_fixed xs end start l s 2 _ (ap width c.in-YesNo.is)) ∙ reads)),
-        )
+    let (start, a, reads, vs, t) = said_as xs end c.args.row.now p h s c.in_ok-shape.ensures in (
+      s,
+      t,
+      subst (λ ws. ValueStands xs s.kind (nth ws c.args.number) c.fixed_at-in-YesNo.result) (sym vs)
+          (q.value end start s.kind a l (sym (shaped_fixed xs end start l s 2 _ (ap width c.in-YesNo.is)) ∙ reads)),
+    )
 
 pub returns-in_default-clause-value : goal.returns-in_default-clause-value
 returns-in_default-clause-value g c =
@@ -44,9 +44,9 @@ returns-in_default-clause-value g c =
     let s = c.in_ok-shape.shape in
     let q = c.sized_at.ensures in
     λ end p l h.
-        let (start, a, reads, vs, t) = said_as xs end c.args.row.now p h s c.in_ok-shape.ensures in (
-          s,
-          t,
-          subst (λ ws. ValueStands xs s.kind (nth ws c.args.number) c.sized_at.result) (sym vs)
-              (q.value end start s.kind s.several a l (sym (shaped_sized xs end start l s _ (no_width s.kind c.in_default.not-Fixed c.in_default.not-YesNo)) ∙ reads)),
-        )
+    let (start, a, reads, vs, t) = said_as xs end c.args.row.now p h s c.in_ok-shape.ensures in (
+      s,
+      t,
+      subst (λ ws. ValueStands xs s.kind (nth ws c.args.number) c.sized_at.result) (sym vs)
+          (q.value end start s.kind s.several a l (sym (shaped_sized xs end start l s _ (no_width s.kind c.in_default.not-Fixed c.in_default.not-YesNo)) ∙ reads)),
+    )

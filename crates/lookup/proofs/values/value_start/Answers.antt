@@ -1,8 +1,6 @@
-use Rattle.std.proofs.Common.{◌≡◌, ◌+◌, ◌<◌, length, refl, ◌∙◌, subst, arith}
+use Rattle.std.proofs.Common.{◌+◌, ◌<◌, length, ◌∙◌, arith}
 use Rattle.source.specs.Content.{meaning}
-use Rattle.property.specs.Values.{sized_value}
-use Rattle.lookup.specs.Listing.{Reaches}
-use Rattle.lookup.proofs.Reaching.{reach_none, reach_step, reach_stopped}
+use Rattle.lookup.proofs.Reaching.{reach_step, reach_stopped}
 use Rattle.lookup.proofs.Valued.{value_next}
 use Rattle.lookup.proofs.values.value_start.Goals as goal
 
@@ -13,7 +11,7 @@ returns-in_default-clause-value g c =
     let q = c.in_default.ensures in
     let v : length xs < c.loop.here + 4 = rw i.0 at q.value in
     λ end start k l n a h e.
-        absurd (reach_stopped _ _ _ _ n a (i.1 end start k l) (omega (arith, c.loop-test.true)) e (λ b f. omega (arith, (value_next xs end start l k _ b f).1)))
+    absurd (reach_stopped _ _ _ _ n a (i.1 end start k l) (omega (arith, c.loop-test.true)) e (λ b f. omega (arith, (value_next xs end start l k _ b f).1)))
 
 pub loop-preserved : goal.loop-preserved
 loop-preserved g c =
