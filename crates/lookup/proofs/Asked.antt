@@ -1,8 +1,11 @@
--- What a result was, by its `ok`, and a number that was asked for so.
+-- What a result was, by its `ok`, a number that was asked for so, and what was given.
 use Rattle.std.proofs.Common.{◌≡◌, ℕ, ◌+◌, ◌<◌, ◌≤◌, List, length, Some, None, Ok, Err, Option, Result, sym, refl, ap, ◌∙◌, arith}
 use Rattle.std.specs.Result.{result_ok}
 use Rattle.source.specs.Bytes.{part}
+use Rattle.source.specs.Outcome.{given}
+use Rattle.source.specs.declared.refusals.Reason.{Reason}
 use Rattle.source.specs.declared.refusals.Refusal.{Refusal}
+use Rattle.source.proofs.Outcomes.{err_not_ok}
 use Rattle.scan.specs.Scans.{asked}
 use Rattle.scan.proofs.Parts.{asked_got, asked_lost, asked_within}
 
@@ -24,3 +27,7 @@ module _ {A : Type 0} (f : List ℕ → A) (xs : List ℕ) (place size : ℕ) (r
 
   pub some_there : (o : Option A) → o ≡ result_ok r → r ≡ asked f xs place size → place + size ≤ length xs → o ≡ Some (f (part xs place size))
   some_there o e q l = e ∙ ap result_ok (q ∙ asked_within f xs place size l)
+
+pub given_got : {A : Type 0} (o : Option A) (r : Reason) (p : ℕ) (a : A) → Ok a ≡ given o r p → o ≡ Some a
+given_got (Some b) r p a e = let s : a ≡ b = cc in ap Some (sym s)
+given_got None r p a e = absurd (err_not_ok (sym e))

@@ -4,7 +4,7 @@ use Rattle.std.specs.Option.{option_eq}
 use Rattle.std.proofs.lemmas.Bool.{cases_eq, both_ways, eqb-true, eq-eqb, ne_eqb}
 use Rattle.source.specs.Outcome.{Outcome, ◌>>=◌, ◌>>◌, need, given, refused}
 use Rattle.source.specs.declared.refusals.Reason.TheVariants.{Level, UnknownId, Misplaced}
-use Rattle.source.proofs.Outcomes.{err_not_ok, ok_same, need_got, bind_got, then_got}
+use Rattle.source.proofs.Outcomes.{ok_same, need_got, bind_got, then_got}
 use Rattle.attribute.specs.Table.{attributes, attribute_of}
 use Rattle.attribute.specs.declared.Attribute.{Attribute}
 use Rattle.attribute.specs.declared.Rule.{Rule}
@@ -13,6 +13,7 @@ use Rattle.frame.proofs.Placing.{find_id}
 use Rattle.stream.specs.Reading.{plain, nature}
 use Rattle.form.proofs.Natures.{find_every}
 use Rattle.message.specs.declared.Target.{Target}
+use Rattle.lookup.proofs.Asked.{given_got}
 use Rattle.editing.specs.Targets.{Use, use_of, may_put, may_drop, target_level, attribute_for}
 
 module _ (t : Target) (i : ℕ) (may : Use → Bool) where
@@ -54,10 +55,6 @@ module _ (t : Target) (i : ℕ) (may : Use → Bool) where
         ]
 
 -- What an attribute that a call may name is.
-given_got : {A : Type 0} (o : Option A) (p : ℕ) (a : A) → Ok a ≡ given o UnknownId p → o ≡ Some a
-given_got (Some b) p a e = let s : a ≡ b = cc in ap Some (sym s)
-given_got None p a e = absurd (err_not_ok (sym e))
-
 pub record Named (t : Target) (i : ℕ) (may : Use → Bool) (a : Attribute) : Type 0 where
   pub known : attribute_of a.id ≡ Some a
   pub id : a.id ≡ i
@@ -73,7 +70,7 @@ named_is t i may a e =
     let (u, h, k) = then_got (need (eqb b.level (target_level t)) Level 0) (last b) a g in
     let (v, l, m) = then_got (need (may (use_of b.rule)) Misplaced 0) (Ok b) a k in
     let same : a ≡ b = ok_same a b m in
-    let is : attribute_of i ≡ Some b = given_got (attribute_of i) 0 b f in
+    let is : attribute_of i ≡ Some b = given_got (attribute_of i) UnknownId 0 b f in
     let id : b.id ≡ i = find_id attributes i b is in
     rw same (record {
       known = ap attribute_of id ∙ is;

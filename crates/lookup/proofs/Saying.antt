@@ -2,8 +2,9 @@
 use Rattle.std.proofs.Common.{◌≡◌, ℕ, ◌<◌, List, [], ◌∷◌, map, length, Some, None, Option, sym, refl, ap, ◌∙◌, inl, inr, arith}
 use Rattle.std.specs.List.{AllByRecursion}
 use Rattle.std.proofs.lemmas.Bool.{cases_eq, eq-eqb, ne_eqb}
-use Rattle.attribute.specs.Table.{attribute_of, recipients_id, attachment_properties_id}
+use Rattle.attribute.specs.Table.{attribute, attribute_of, recipients_id, attachment_properties_id}
 use Rattle.attribute.specs.declared.Attribute.{Attribute}
+use Rattle.attribute.specs.declared.Rule.TheVariants.{Recipients}
 use Rattle.frame.specs.declared.stages.Stage.{Stage}
 use Rattle.frame.specs.declared.stages.Stage.TheVariants.{Version}
 use Rattle.contents.specs.Contents.{normal}
@@ -12,13 +13,13 @@ use Rattle.property.specs.Lists.{Property, indexed}
 use Rattle.stream.specs.Messages.{Holding, or_default, first, contents_under, as_list, as_table, properties_of, rows_of, holding_of}
 use Rattle.stream.specs.Writing.{entry_data}
 use Rattle.message.specs.Sameness.{contents_held}
-use Rattle.form.specs.Targets.{remaining, Readable, own_part, row_under, AsWritten, NormalRow, Taken, StaysWritten}
+use Rattle.form.specs.Targets.{Standing, remaining, Readable, own_part, row_under, AsWritten, NormalRow, Taken, StaysWritten}
 use Rattle.form.specs.Holdings.{Plain, told_by, told_in}
 use Rattle.form.specs.Wholes.{Rendered}
 use Rattle.form.proofs.Natures.{level_of, Apt, all_apt, own_levels}
 use Rattle.form.proofs.Holds.{plain_row, held_some, held_none}
-use Rattle.form.proofs.Found.{row_found, row_lost}
-use Rattle.form.proofs.Tells.{own_all, contents_same, table_same, list_same}
+use Rattle.form.proofs.Found.{TableHeld, row_found, row_lost, table_held}
+use Rattle.form.proofs.Tells.{recipients_known, own_all, contents_same, table_same, list_same}
 use Rattle.form.proofs.Beginnings.{head, rendering_level}
 use Rattle.form.proofs.Forms.{own_is, own_level, page_told}
 use Rattle.lookup.specs.Finding.{list_in, table_in, Says, SaysMessage, ContentsStand, NormalStand}
@@ -59,6 +60,10 @@ module _ (xs : List ℕ) where
 
   -- The table and the list under an id, where their row is found and where it is not.
   module _ (rows : List AttributeRow) where
+    pub recipients_held : AllByRecursion (Standing xs) rows → (r : AttributeRow) → Some r ≡ row_under recipients_id rows
+        → (ts : List (List Property)) × TableHeld xs rows r ts
+    recipients_held sound r e = table_held xs rows sound (attribute recipients_id 1 Recipients) r e recipients_known refl
+
     pub table_told : (ts : List (List Property)) → told_in as_table recipients_id xs rows ≡ Some ts → table_in xs rows ≡ ts
     table_told ts e = ap (λ o. or_default o []) e
 

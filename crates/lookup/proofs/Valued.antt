@@ -1,9 +1,9 @@
 -- The values of a property that a row carries.
-use Rattle.std.proofs.Common.{◌≡◌, ℕ, zero, suc, ◌+◌, ◌*◌, ◌<◌, ◌≤◌, Bool, true, false, cond, eqb, leb, List, length, Some, None, Ok, Option, sym, refl, ap, ◌∙◌, suc-mul, zero-mul, arith}
+use Rattle.std.proofs.Common.{◌≡◌, ℕ, zero, suc, ◌+◌, ◌*◌, ◌<◌, ◌≤◌, Bool, true, false, cond, eqb, leb, List, length, Some, None, Ok, sym, refl, ap, ◌∙◌, suc-mul, zero-mul, arith}
 use Rattle.source.specs.Bytes.{part, val}
 use Rattle.source.specs.Outcome.{Outcome, ◌>>=◌, ◌>>◌, need, given}
 use Rattle.source.specs.declared.refusals.Reason.TheVariants.{FieldRule}
-use Rattle.source.proofs.Outcomes.{err_not_ok, ok_same, bind_got, then_got}
+use Rattle.source.proofs.Outcomes.{ok_same, bind_got, then_got}
 use Rattle.index.specs.Keys.{key_of}
 use Rattle.index.specs.declared.properties.PropertyRow.{PropertyRow}
 use Rattle.property.specs.declared.kinds.Kind.{Kind}
@@ -18,11 +18,8 @@ use Rattle.listform.specs.Forms.{number_there, sized_next}
 use Rattle.listform.proofs.ValueForms.{number_in, fixed_in, value_in}
 use Rattle.listform.proofs.WalkSteps.{repeated_first, repeated_length}
 use Rattle.lookup.specs.Listing.{Reaches}
+use Rattle.lookup.proofs.Asked.{given_got}
 use Rattle.lookup.proofs.Reaching.{nth_drop, reach_first}
-
-given_got : {A : Type 0} (o : Option A) (p : ℕ) (a : A) → Ok a ≡ given o FieldRule p → o ≡ Some a
-given_got (Some b) p a e = let s : a ≡ b = cc in ap Some (sym s)
-given_got None p a e = absurd (err_not_ok (sym e))
 
 -- What a row that carries a property says.
 pub record Said (xs : List ℕ) (end : ℕ) (row : PropertyRow) (p : Property) : Type 0 where
@@ -46,7 +43,7 @@ said xs end row p (start, e) =
       start = start;
       shape = s;
       read = v;
-      shaped = given_got (shape_of row.number) start s f;
+      shaped = given_got (shape_of row.number) FieldRule start s f;
       reads = sym h;
       values = ap (λ (a : At Property). a.what.values) same;
       type = ap (λ (a : At Property). a.what.type) same;

@@ -1,12 +1,8 @@
-use Rattle.std.proofs.Common.{length, unwrap_or, sym, refl, ap, ◌∙◌}
+use Rattle.std.proofs.Common.{length, unwrap_or, sym, ap, ◌∙◌}
 use Rattle.std.proofs.lemmas.List.{length-map}
 use Rattle.source.specs.Content.{meaning}
-use Rattle.attribute.specs.Table.{attribute, recipients_id}
-use Rattle.attribute.specs.declared.Rule.TheVariants.{Recipients}
-use Rattle.form.proofs.Found.{table_held}
-use Rattle.form.proofs.Tells.{recipients_known}
 use Rattle.lookup.proofs.Asked.{some_there}
-use Rattle.lookup.proofs.Saying.{table_told, table_lost}
+use Rattle.lookup.proofs.Saying.{recipients_held, table_told, table_lost}
 use Rattle.lookup.proofs.counts.count_rows.Goals as goal
 
 pub returns-in_default-clause-value : goal.returns-in_default-clause-value
@@ -19,6 +15,6 @@ returns-clause-value g c =
     let xs = meaning (g.S.Source.content c.args.source.now) in
     let t = c.message_rows-rows.ensures in
     let rows = c.message_rows-rows.result in
-    let (ts, h) = table_held xs rows t.value.own.sound (attribute recipients_id 1 Recipients) c.in-Some.row c.in-Some.ensures recipients_known refl in
+    let (ts, h) = recipients_held xs rows t.value.own.sound c.in-Some.row c.in-Some.ensures in
     c.unwrap_or.ensures ∙ ap (λ o. unwrap_or o 0) (some_there _ xs _ _ _ _ c.ok-count.ensures.value (rw t.same at c.at.ensures.value) h.room)
     ∙ h.counted ∙ ap length (sym (table_told xs rows ts h.told)) ∙ sym (length-map _ _) ∙ ap length t.value.table

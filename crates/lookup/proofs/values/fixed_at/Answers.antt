@@ -22,16 +22,13 @@ returns-then-not-several-clause-value g c end start k a l e =
       | inr d ↦ rw (c.then_some.ensures, ne_eqb c.args.number 0 d) (nth_past a.what c.args.number (omega arith))
     ]
 
-pub returns-then-number-count : goal.returns-then-number-count
-returns-then-number-count g c =
+pub returns-then-number-count-clause-value : goal.returns-then-number-count-clause-value
+returns-then-number-count-clause-value g c =
     let xs = meaning (g.S.Source.content c.args.source.now) in
     let q = c.at.ensures in
-    record {
-      same = q.same;
-      value = λ end start k a l e.
-          let (_, n, _) = fixed_all xs end start l k c.args.width c.args.place a c.args.several c.if-not-several.false e in
-          nth_past a.what c.args.number (omega (arith, (some_got _ _ _ _ _ _ c.in_ok-count.ensures.value q.value).1, c.if-number-count.true));
-    }
+    λ end start k a l e.
+    let (_, n, _) = fixed_all xs end start l k c.args.width c.args.place a c.args.several c.if-not-several.false e in
+    nth_past a.what c.args.number (omega (arith, (some_got _ _ _ _ _ _ c.in_ok-count.ensures.value q.value).1, c.if-number-count.true))
 
 pub overflow_add-place : goal.overflow_add-place
 overflow_add-place g c =
@@ -46,30 +43,24 @@ overflow_add-place-2 g c =
     let m : c.args.number * c.padded.result ≤ 2199023255552 = mul-le-mul n w in
     omega (arith, (some_got _ _ _ _ _ _ c.in_ok-count.ensures.value q.value).0, c.len-total.ensures.value, c.len-total.ensures.bound)
 
-pub returns : goal.returns
-returns g c =
+pub returns-clause-value : goal.returns-clause-value
+returns-clause-value g c =
     let xs = meaning (g.S.Source.content c.args.source.now) in
     let q = c.at.ensures in
     let w : c.padded.result ≡ padded c.args.width = c.padded.ensures ∙ ap padded c.from-size.ensures in
     let t : c.args.number * c.padded.result ≡ c.args.number * padded c.args.width = ap (λ n. c.args.number * n) w in
-    record {
-      same = q.same;
-      value = λ end start k a l e.
-          let (_, n, r) = fixed_all xs end start l k c.args.width c.args.place a c.args.several c.if-not-several.false e in
-          let (u, v) = fixed_nth xs end start l k c.args.width _ _ a c.args.number r (omega (arith, (some_got _ _ _ _ _ _ c.in_ok-count.ensures.value q.value).1, c.if-number-count.false)) in (
-            omega (arith, u, t, c.from-size.ensures),
-            v ∙ ap (λ n. Some (value k (part xs (c.args.place + 4 + n) c.args.width))) (sym t)
-                ∙ ap (λ n. Some (value k (part xs (c.args.place + 4 + c.args.number * c.padded.result) n))) (sym c.from-size.ensures),
-          );
-    }
+    λ end start k a l e.
+    let (_, n, r) = fixed_all xs end start l k c.args.width c.args.place a c.args.several c.if-not-several.false e in
+    let (u, v) = fixed_nth xs end start l k c.args.width _ _ a c.args.number r (omega (arith, (some_got _ _ _ _ _ _ c.in_ok-count.ensures.value q.value).1, c.if-number-count.false)) in (
+      omega (arith, u, t, c.from-size.ensures),
+      v ∙ ap (λ n. Some (value k (part xs (c.args.place + 4 + n) c.args.width))) (sym t)
+          ∙ ap (λ n. Some (value k (part xs (c.args.place + 4 + c.args.number * c.padded.result) n))) (sym c.from-size.ensures),
+    )
 
-pub returns-in_err-count : goal.returns-in_err-count
-returns-in_err-count g c =
+pub returns-in_err-count-clause-value : goal.returns-in_err-count-clause-value
+returns-in_err-count-clause-value g c =
     let xs = meaning (g.S.Source.content c.args.source.now) in
     let q = c.at.ensures in
-    record {
-      same = q.same;
-      value = λ end start k a l e.
-          let (u, _, _) = fixed_all xs end start l k c.args.width c.args.place a c.args.several c.if-not-several.false e in
-          absurd (omega (arith, u, none_lost _ _ _ _ _ c.in_err-count.ensures.value q.value));
-    }
+    λ end start k a l e.
+    let (u, _, _) = fixed_all xs end start l k c.args.width c.args.place a c.args.several c.if-not-several.false e in
+    absurd (omega (arith, u, none_lost _ _ _ _ _ c.in_err-count.ensures.value q.value))

@@ -14,13 +14,13 @@ overflow_add-result-2 g c =
     let q = c.at.ensures in
     omega (arith, (some_got _ _ _ _ _ _ c.in_ok-size.ensures.value q.value).0, c.len-total.ensures.value, c.len-total.ensures.bound, c.padded.ensures)
 
-pub returns : goal.returns
+pub returns-clause-value : goal.returns-clause-value
 unfolding number_there
-returns g c =
+returns-clause-value g c =
     let q = c.at.ensures in
-    record { same = q.same; value = ap (λ n. c.args.place + 4 + n) (c.padded.ensures ∙ ap padded (some_got _ _ _ _ _ _ c.in_ok-size.ensures.value q.value).1) }
+    ap (λ n. c.args.place + 4 + n) (c.padded.ensures ∙ ap padded (some_got _ _ _ _ _ _ c.in_ok-size.ensures.value q.value).1)
 
-pub returns-in_err-size : goal.returns-in_err-size
-returns-in_err-size g c =
+pub returns-in_err-size-clause-value : goal.returns-in_err-size-clause-value
+returns-in_err-size-clause-value g c =
     let q = c.at.ensures in
-    record { same = q.same; value = rw c.from_residual.ensures (none_lost _ _ _ _ _ c.in_err-size.ensures.value q.value) }
+    rw c.from_residual.ensures (none_lost _ _ _ _ _ c.in_err-size.ensures.value q.value)
