@@ -1,4 +1,4 @@
-use Rattle.std.proofs.Common.{◌≡◌, length, refl}
+use Rattle.std.proofs.Common.{length}
 use Rattle.source.specs.Content.{meaning}
 use Rattle.amend.proofs.Indices.{indexed_here, indexed_lost, indexed_cut}
 use Rattle.amend.proofs.Turns.{turn_some, turn_writes, turn_leaves}
