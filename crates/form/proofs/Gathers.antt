@@ -1,10 +1,10 @@
 -- Rows of a target that are gathered frame by frame.
-use Rattle.std.proofs.Common.{◌≡◌, ℕ, ◌+◌, ◌<◌, ◌≤◌, Bool, true, false, cond, ◌&&◌, ◌||◌, eqb, ltb, List, [], ◌∷◌, ◌++◌, map, length, get_or, take, Some, None, Option, sym, refl, ap, ◌∙◌, inl, inr, one-add, arith}
+use Rattle.std.proofs.Common.{◌≡◌, ℕ, ◌+◌, ◌<◌, ◌≤◌, Bool, true, false, cond, ◌&&◌, ◌||◌, eqb, ltb, List, [], ◌∷◌, ◌++◌, map, length, Some, None, Option, sym, refl, ap, ◌∙◌, inl, inr, arith}
 use Rattle.std.specs.Prelude.{find as first_such}
 use Rattle.std.specs.List.{AllByRecursion}
-use Rattle.std.proofs.lemmas.List.{length-append, length-take}
+use Rattle.std.proofs.lemmas.List.{length-append}
 use Rattle.std.proofs.ByRecursion.{All-push}
-use Rattle.std.proofs.lemmas.Bool.{cases_Bool, cases_eq, both_ways, lt-ltb, eq-eqb, ne_eqb, or_parts}
+use Rattle.std.proofs.lemmas.Bool.{cases_Bool, cases_eq, both_ways, lt-ltb, eq-eqb, ne_eqb}
 use Rattle.std.proofs.lemmas.Bool.Decides.{nat_tests}
 use Rattle.attribute.specs.Table.{attributes, find, attribute_of, rendering_id}
 use Rattle.attribute.specs.declared.Attribute.{Attribute}
@@ -14,10 +14,10 @@ use Rattle.frame.specs.declared.stages.Stage.{Stage}
 use Rattle.frame.proofs.Standing.{Stands}
 use Rattle.contents.specs.Writing.{known}
 use Rattle.index.specs.declared.attributes.AttributeRow.{AttributeRow}
-use Rattle.index.specs.Rows.{has, before, position, added}
+use Rattle.index.specs.Rows.{has, added}
 use Rattle.stream.specs.Reading.{Entry}
 use Rattle.stream.specs.Messages.{or_else, message_part}
-use Rattle.form.specs.Targets.{remaining, Readable, own_part, later_part, past_part, row_entry, Standing, frame_row, own_next, entry_under, row_under, same_id, AsWritten, NormalRow, Taken, StaysWritten}
+use Rattle.form.specs.Targets.{remaining, Readable, own_part, later_part, past_part, row_entry, Standing, frame_row, own_next, entry_under, row_under, same_id, AsWritten, NormalRow, Taken}
 use Rattle.form.proofs.Walks.{steps, ends}
 use Rattle.form.proofs.Normals.{frame_normal, written_on}
 
@@ -169,9 +169,6 @@ pub record Gathering (xs : List ℕ) (p : ℕ) (s : Stage) (rows : List Attribut
   pub along : AsWritten xs p s → AsWritten xs q t
   pub normal : AsWritten xs p s → AllByRecursion (NormalRow xs) rows
 
-pub gather_none : (xs : List ℕ) (p : ℕ) (s : Stage) → Readable xs p s → Gathering xs p s [] p s
-gather_none xs p s g = record { good = g; few = omega arith; sound = tt; held = λ i. refl; past = refl; moved = refl; along = λ w. w; normal = λ w. tt }
-
 -- The frame that comes next is of the target, or it is not.
 own_some : (used : ℕ) (o : Option Frame) (f : Frame) → own_next used o ≡ Some f → (o ≡ Some f) × ((ltb 0 used && eqb f.attribute.id rendering_id) ≡ false)
 own_some used None f e = let z : ◌≡◌ {A = ℕ} 0 1 = cc in absurd (omega arith)
@@ -237,9 +234,6 @@ module _ (xs : List ℕ) (p : ℕ) (s : Stage) (rows : List AttributeRow) (q : �
     after = g.good;
     onward = on;
   }
-
-  pub gather_written : StaysWritten xs p s rows q t
-  gather_written = record { along = g.along; normal = g.normal }
 
 left_none : (rows : List AttributeRow) → (left_part rows [] ≡ []) × (left_past rows [] ≡ [])
 unfolding own_part past_part message_part later_part

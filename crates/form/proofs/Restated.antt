@@ -11,8 +11,6 @@ use Rattle.source.specs.declared.refusals.Refusal.{Refusal}
 use Rattle.source.proofs.Outcomes.{err_not_ok, over_lost}
 use Rattle.frame.specs.Frames.{header}
 use Rattle.frame.specs.declared.stages.Stage.TheVariants as stage
-use Rattle.pen.specs.declared.Pen.{Pen}
-use Rattle.pen.specs.Pen.{Wrote}
 use Rattle.property.specs.Lists.{list_limit}
 use Rattle.stream.specs.Reading.{Entry, entries_at, entries_of}
 use Rattle.stream.specs.Messages.{Message, message_of, read}
@@ -66,10 +64,7 @@ module _ (xs : List ℕ) where
     unfolding fitted
     form_fits m h e l = rw (← restated_by m h e, fits_both (length (written m)) l)
 
--- What a pen that began at the front has written.
-pub filled : {p : Pen} {bytes : List ℕ} {q : Pen} → Wrote p bytes q → p.here ≡ Some 0 → Fills p.out.now bytes q.out.now q.here
-filled s e = record { kept = s.kept; told = rw e at s.told }
-
+-- What was written from the front on.
 pub wrote_some : (b w a : List ℕ) (n : ℕ) → Fills b w a (Some n) → (n ≡ length w) × (n ≤ length b) × (take n a ≡ w)
 wrote_some b w a n p =
     let (e, t) = p.told in

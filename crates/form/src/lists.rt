@@ -51,8 +51,7 @@ pub fn write_properties<S: Source>(
     let Some(row) = rows.under(attribute.id) else {
         return;
     };
-    let empty = is_empty(source, row.place);
-    if empty {
+    if is_empty(source, row.place) {
         return;
     }
     let start = pen_open(pen);
@@ -79,8 +78,7 @@ pub fn write_recipients<S: Source>(
     let Some(row) = rows.under(ATT_RECIPIENTS) else {
         return;
     };
-    let empty = is_empty(source, row.place);
-    if empty {
+    if is_empty(source, row.place) {
         return;
     }
     let start = pen_open(pen);

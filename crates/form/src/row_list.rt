@@ -60,11 +60,11 @@ impl Rows {
     pub fn under(&self, id: u32) -> Option<AttributeRow>
         ensures { result ≡ row_under id self.now }
     {
-        let rows = &self.rows[0..self.used];
-        row_in(rows, id)
+        row_in(&self.rows[0..self.used], id)
     }
 }
 
+// The first of `rows` under an id.
 fn row_in(rows: &[AttributeRow], id: u32) -> Option<AttributeRow>
     ensures { result ≡ first_such (λ r. r.id == id) rows.now }
 {

@@ -23,7 +23,7 @@ pub returns-clause-answers : goal.returns-clause-answers
 returns-clause-answers g c =
     let h = c.in_ok-judge.ensures in
     let l : length (take (c.min-size.result - 0) c.args.out.now) ≡ min (length c.args.out.now) source_limit =
-        omega (arith, length-take (c.min-size.result - 0) c.args.out.now, c.min-size.ensures) in
+    omega (arith, length-take (c.min-size.result - 0) c.args.out.now, c.min-size.ensures) in
     c.ok_or.ensures.value ∙ fill_answers _ _ (judged_read _ _ h.reads) _ _ _ _ c.if-lent.false l _ (rw h.same at c.fill.ensures.value)
 
 pub returns-clause-writes : goal.returns-clause-writes

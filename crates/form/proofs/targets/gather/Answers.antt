@@ -1,6 +1,6 @@
-use Rattle.std.proofs.Common.{refl, sym, ◌∙◌, arith}
+use Rattle.std.proofs.Common.{sym, ◌∙◌, arith}
 use Rattle.attribute.specs.Table.{attributes}
-use Rattle.form.proofs.Gathers.{covered_most, gather_none, gather_more, gather_stands, gather_end, gather_written}
+use Rattle.form.proofs.Gathers.{covered_most, gather_more, gather_stands, gather_end}
 use Rattle.form.proofs.targets.gather.Goals as goal
 
 pub overflow_add-frame : goal.overflow_add-frame
