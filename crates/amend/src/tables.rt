@@ -63,10 +63,11 @@ fn write_turn<S: Source, T: Source>(
         pen.here = None;
         return None;
     };
-    if let Some(listing) = turn {
-        let found = &lent[0..listed.count];
-        write_cut(source, input, found, &cut_of(found, listing), pen);
-    }
+    let Some(listing) = turn else {
+        return Some(listed.next);
+    };
+    let found = &lent[0..listed.count];
+    write_cut(source, input, found, &cut_of(found, listing), pen);
     Some(listed.next)
 }
 

@@ -1,7 +1,5 @@
-use Rattle.std.proofs.Common.{◌≡◌, sym, ◌∙◌, subst}
-use Rattle.source.specs.Content.{meaning}
+use Rattle.std.proofs.Common.{◌∙◌}
 use Rattle.pen.proofs.Pens.{leads_on, leads_end}
-use Rattle.amend.specs.Changes.{SlotMeans}
 use Rattle.amend.proofs.Moves.{slot_moved}
 use Rattle.amend.proofs.Slots.{after_more, after_none}
 use Rattle.amend.proofs.attributes.write_changed_attributes.Goals as goal

@@ -1,5 +1,5 @@
 use native.Mathlib.Nat.{sub-zero}
-use Rattle.std.proofs.Common.{◌∙◌, arith}
+use Rattle.std.proofs.Common.{arith}
 use Rattle.source.specs.Content.{meaning}
 use Rattle.std.proofs.lemmas.List.{length-take, length-drop}
 use Rattle.pen.proofs.Pens.{◌▷◌}

@@ -1,4 +1,4 @@
-use Rattle.std.proofs.Common.{◌≡◌, length, refl}
+use Rattle.std.proofs.Common.{length}
 use Rattle.source.specs.Content.{meaning}
 use Rattle.amend.proofs.Indices.{indexed_here, indexed_lost, indexed_cut}
 use Rattle.amend.proofs.Turns.{turn_some, turn_writes, turn_leaves}
@@ -18,8 +18,8 @@ write_cut-requires g c =
     let (k, _, means) = turn_some ys c.args.turn c.in-Some.listing c.in-Some.is t m in
     rw h.same (indexed_cut xs ys _ c.in-Ok.listed.count ps indexed c.in-Some.listing k means _ c.cut_of.ensures).fits
 
-pub returns-in-Some-clause-value : goal.returns-in-Some-clause-value
-returns-in-Some-clause-value g c =
+pub returns-clause-value : goal.returns-clause-value
+returns-clause-value g c =
     let xs = meaning (g.S.Source.content c.args.source.now) in
     let ys = meaning (g.T.Source.content c.args.input.now) in
     let h = c.in-Ok.ensures in
