@@ -1,7 +1,7 @@
 // The properties of a list or a table, a line each.
 use crate::shown::{print_bytes, print_hex, print_text8, print_text16};
 use index::{PropertyKey, PropertyRow};
-use property::{Kind, Shape, read_property, shape_of};
+use property::{Kind, Shape, padded, read_property, shape_of};
 use scan::Number;
 use source::Source;
 use std::io;
@@ -89,11 +89,6 @@ fn print_fixed<S: Source, W: Write>(
             print_hex(out, source, place, usize::from(width))
         }
     }
-}
-
-// How many bytes `size` are with their padding.
-fn padded(size: usize) -> usize {
-    size.saturating_add((4 - size % 4) % 4)
 }
 
 // One value behind its size; the place behind its padding.

@@ -9,4 +9,5 @@ mod values;
 
 pub use fields::number_at;
 pub use lists::{write_list, write_table};
-pub use rows::{FIRST_NAMED, write_rows_from};
+pub use property::FIRST_NAMED;
+pub use rows::write_rows_from;

@@ -11,11 +11,8 @@ use crate::keys::{after_key, pen_key};
 use crate::values::write_values;
 use index::PropertyRow;
 use pen::Pen;
-use property::shape_of;
+use property::{FIRST_NAMED, shape_of};
 use source::Source;
-
-// The number of the first name.
-pub const FIRST_NAMED: u16 = 0x8000;
 
 // Writes a type, a key and the values.
 fn write_row<S: Source>(source: &mut S, row: &PropertyRow, number: u16, pen: &mut Pen<'_>)

@@ -16,5 +16,5 @@ pub use kinds::{Kind, Shape, kinds_are_lawful, shape_of};
 pub use lists::{
     LIST_LIMIT, ROW_LIMIT, list_end, one_property, property_list, read_property, recipient_table,
 };
-pub use names::one_key;
+pub use names::{FIRST_NAMED, one_key};
 pub use writing::written_is_read_back;

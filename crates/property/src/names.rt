@@ -13,7 +13,7 @@ use scan::is_text16;
 use source::{Reason, Refusal, Source};
 
 // The lowest id that has a name.
-const FIRST_NAMED: u16 = 0x8000;
+pub const FIRST_NAMED: u16 = 0x8000;
 
 // A key and the place behind it.
 #[derive(Clone, Copy)]
