@@ -1,6 +1,7 @@
 // The properties of a list or a table, a line each.
-use crate::shown::{print_bytes, print_hex, print_text8, print_text16};
-use index::{PropertyKey, PropertyRow};
+use crate::shown::{print_hex, print_text8, print_text16};
+use crate::texts::Key;
+use index::PropertyRow;
 use property::{Kind, Shape, padded, read_property, shape_of};
 use scan::Number;
 use source::Source;
@@ -24,34 +25,6 @@ fn type_name(number: u16) -> &'static str {
         0x0040 => "systime",
         0x0048 => "guid",
         _ => "binary",
-    }
-}
-
-fn print_units<W: Write>(out: &mut W, text: &[u8]) -> io::Result<()> {
-    for pair in text.chunks_exact(2) {
-        match u16::from_le_bytes([pair[0], pair[1]]) {
-            0 => {}
-            unit @ 32..=126 => write!(out, "{}", char::from(unit as u8))?,
-            unit => write!(out, "\\u{unit:04X}")?,
-        }
-    }
-    Ok(())
-}
-
-// A property's id, or its GUID and number or string.
-fn print_key<W: Write>(out: &mut W, key: &PropertyKey) -> io::Result<()> {
-    match key {
-        PropertyKey::Tag(id) => write!(out, "0x{id:04X}"),
-        PropertyKey::Numbered(guid, number) => {
-            print_bytes(out, guid)?;
-            write!(out, "/0x{number:08X}")
-        }
-        PropertyKey::Named(guid, name) => {
-            print_bytes(out, guid)?;
-            write!(out, "/\"")?;
-            print_units(out, name.text())?;
-            write!(out, "\"")
-        }
     }
 }
 
@@ -142,9 +115,7 @@ fn print_property<S: Source, W: Write>(
     source: &mut S,
     row: &PropertyRow,
 ) -> io::Result<()> {
-    write!(out, "    ")?;
-    print_key(out, &row.key)?;
-    write!(out, " {}", type_name(row.number))?;
+    write!(out, "    {} {}", Key(&row.key), type_name(row.number))?;
     let Some(shape) = shape_of(row.number) else {
         return writeln!(out, "");
     };

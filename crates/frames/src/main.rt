@@ -4,6 +4,7 @@
 mod lists;
 mod meanings;
 mod shown;
+mod texts;
 
 use crate::lists::{print_list, print_table};
 use crate::meanings::print_meaning;

@@ -1,4 +1,6 @@
-// Bytes of a source as people read them: shortened, and escaped.
+// Bytes of a source as people read them: shortened, and escaped. Reading takes the source as `&mut`, which a `Display` lends
+// none: so functions fetch, and what is fetched has its own.
+use crate::texts::{Hex, Text8, Text16};
 use source::Source;
 use std::io;
 use std::io::Write;
@@ -28,14 +30,6 @@ fn print_rest<W: Write>(out: &mut W, shown: usize, size: usize) -> io::Result<()
     Ok(())
 }
 
-fn print_char<W: Write>(out: &mut W, byte: u8) -> io::Result<()> {
-    match byte {
-        b'"' | b'\\' => write!(out, "\\{}", char::from(byte)),
-        b' '..=b'~' => write!(out, "{}", char::from(byte)),
-        _ => write!(out, "\\x{byte:02X}"),
-    }
-}
-
 // Text without its closing zero.
 pub fn print_text8<S: Source, W: Write>(
     out: &mut W,
@@ -46,19 +40,8 @@ pub fn print_text8<S: Source, W: Write>(
     let text = size.saturating_sub(1);
     let mut buffer = [0u8; SHOWN];
     let bytes = front(source, place, text, &mut buffer);
-    write!(out, "\"")?;
-    for byte in bytes {
-        print_char(out, *byte)?;
-    }
-    write!(out, "\"")?;
+    write!(out, "\"{}\"", Text8(bytes))?;
     print_rest(out, bytes.len(), text)
-}
-
-fn print_unit<W: Write>(out: &mut W, unit: u16) -> io::Result<()> {
-    if unit < 128 {
-        return print_char(out, unit as u8);
-    }
-    write!(out, "\\u{unit:04X}")
 }
 
 // UTF-16 text without its closing zero.
@@ -71,19 +54,8 @@ pub fn print_text16<S: Source, W: Write>(
     let text = size.saturating_sub(2);
     let mut buffer = [0u8; SHOWN];
     let bytes = front(source, place, text, &mut buffer);
-    write!(out, "\"")?;
-    for pair in bytes.chunks_exact(2) {
-        print_unit(out, u16::from_le_bytes([pair[0], pair[1]]))?;
-    }
-    write!(out, "\"")?;
+    write!(out, "\"{}\"", Text16(bytes))?;
     print_rest(out, bytes.len(), text)
-}
-
-pub fn print_bytes<W: Write>(out: &mut W, bytes: &[u8]) -> io::Result<()> {
-    for byte in bytes {
-        write!(out, "{byte:02X}")?;
-    }
-    Ok(())
 }
 
 pub fn print_hex<S: Source, W: Write>(
@@ -97,6 +69,6 @@ pub fn print_hex<S: Source, W: Write>(
     if bytes.is_empty() {
         write!(out, "-")?;
     }
-    print_bytes(out, bytes)?;
+    write!(out, "{}", Hex(bytes))?;
     print_rest(out, bytes.len(), size)
 }
