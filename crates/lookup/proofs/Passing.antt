@@ -2,7 +2,6 @@
 use Rattle.std.proofs.Common.{◌≡◌, ℕ, zero, suc, ◌+◌, ◌<◌, ◌≤◌, ltb, List, [], ◌∷◌, ◌++◌, map, length, is_some, Some, None, Option, sym, refl, ap, ◌∙◌, inl, inr, append_assoc, append-nil, arith}
 use Rattle.std.proofs.lemmas.List.{length-append}
 use Rattle.std.proofs.lemmas.Bool.{cases_lt, lt-ltb, le-ltb, eq-eqb}
-use Rattle.std.proofs.lemmas.Bool.Decides.{nat_tests}
 use Rattle.attribute.specs.Table.{rendering_id}
 use Rattle.frame.specs.Frames.{next_frame}
 use Rattle.frame.specs.declared.Frame.{Frame}
@@ -12,8 +11,7 @@ use Rattle.contents.specs.Writing.{known}
 use Rattle.index.specs.declared.attributes.AttributeRow.{AttributeRow}
 use Rattle.stream.specs.Reading.{Entry}
 use Rattle.stream.specs.Messages.{holding_of, attachment_parts}
-use Rattle.property.specs.Lists.{Property}
-use Rattle.message.specs.Sameness.{nth, row_holding}
+use Rattle.message.specs.Sameness.{nth}
 use Rattle.form.specs.Targets.{remaining, Readable, own_part, past_part, Taken, StaysWritten}
 use Rattle.form.specs.Wholes.{Rendered}
 use Rattle.form.proofs.Walks.{steps, ends}
@@ -31,11 +29,6 @@ module _ {A : Type 0} where
   nth_past [] k h = refl
   nth_past (x ∷ l) zero h = absurd (omega arith)
   nth_past (x ∷ l) (suc k) h = nth_past l k (omega arith)
-
-  pub nth_some : (l : List A) (k : ℕ) → is_some (nth l k) ≡ ltb k (length l)
-  nth_some [] k = grind (arith, nat_tests)
-  nth_some (x ∷ l) zero = grind (arith, nat_tests)
-  nth_some (x ∷ l) (suc k) = nth_some l k ∙ grind (arith, nat_tests)
 
 parts_cons : (e : Entry) (es : List Entry) → e.id ≡ rendering_id → attachment_parts (e ∷ es) ≡ own_part (e ∷ es) ∷ attachment_parts (past_part (e ∷ es))
 unfolding own_part past_part attachment_parts
@@ -100,7 +93,3 @@ module _ (xs : List ℕ) where
     | inl l ↦ rw (lt-ltb p (length xs) l, ← h l, passed_here n p s w l)
     | inr l ↦ rw (passed_gone n k p s w m l) (le-ltb p (length xs) l)
   ]
-
-pub row_some : (o : Option (List Property)) → is_some (row_holding o) ≡ is_some o
-row_some None = refl
-row_some (Some ps) = refl
