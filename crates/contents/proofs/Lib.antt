@@ -1,7 +1,5 @@
-pub mod Admitted
 pub mod ClassTexts
 pub mod Normal
-pub mod Days
 pub mod LittleEndian
 pub mod Parts
 pub mod Spellings

@@ -16,7 +16,8 @@ use Rattle.contents.specs.Digits.{digit, digit_pairs, capital}
 use Rattle.contents.specs.Status.{status_in}
 use Rattle.contents.specs.Contents.{Contents, text, class, date, digits, status, importance, truth, raw, rendering, version, code_page, class_of, ranked, importance_in, truth_in, code_page_in, right_rendering, rendering_in, checked_rendering, is_version, means, normal, admits, normal_of, normal_data}
 use Rattle.contents.specs.Laws.{NormalMeansSame, NormalDecides}
-use Rattle.contents.proofs.LittleEndian.{length_le, val_le, val_part}
+use Rattle.scan.proofs.Numbers.{length_le, val_le}
+use Rattle.contents.proofs.LittleEndian.{val_part}
 use Rattle.contents.proofs.Parts.{where_some, also_some, then_some, exactly_some, exactly_all}
 
 -- Text: no zero before the last byte.
@@ -30,11 +31,11 @@ zero_back (x ∷ t) h = rw (h.0, zero_back t h.1)
 
 nothing_some : (xs t : List ℕ) → nothing_more xs ≡ Some t → (xs ≡ []) × (t ≡ [])
 nothing_some [] t e = (refl, cc)
-nothing_some (x ∷ xs) t e = absurd (let z : ◌≡◌ {A = ℕ} 0 1 = cc in omega arith)
+nothing_some (x ∷ xs) t e = absurd cc
 
 pub zero_gives : (xs t : List ℕ) → before_zero xs ≡ Some t → NoZero t × (xs ≡ t ++ 0 ∷ [])
 unfolding before_zero
-zero_gives [] t e = absurd (let z : ◌≡◌ {A = ℕ} 0 1 = cc in omega arith)
+zero_gives [] t e = absurd cc
 zero_gives (x ∷ xs) t e =
     elim (cases_Bool (eqb x 0)) [
       | inl z ↦
@@ -49,7 +50,7 @@ zero_gives (x ∷ xs) t e =
 
 -- Classes.
 pair_range : (t : List ℕ) (ps : List Pair) (n k : ℕ) → pair_from t ps n ≡ Some k → (n ≤ k) × (k < n + length ps)
-pair_range t [] n k e = absurd (let z : ◌≡◌ {A = ℕ} 0 1 = cc in omega arith)
+pair_range t [] n k e = absurd cc
 pair_range t (p ∷ ps) n k e =
     elim (cases_Bool (means_pair t p)) [
       | inl y ↦ let here : Some n ≡ Some k = rw y at e in let same : n ≡ k = cc in omega arith
@@ -143,7 +144,7 @@ digit_back n h = grind arith
 
 digits_back : (cs ns : List ℕ) → digit_pairs cs ≡ Some ns → (digit_pairs (map capital ns ++ 0 ∷ []) ≡ Some ns) × (suc (length ns) ≡ length cs)
 unfolding digit_pairs
-digits_back [] ns e = absurd (let z : ◌≡◌ {A = ℕ} 0 1 = cc in omega arith)
+digits_back [] ns e = absurd cc
 digits_back (c ∷ []) ns e =
     let (t, same) = where_some (eqb c 0) [] ns e in rw (← same) (refl, refl)
 digits_back (c ∷ (d ∷ rest)) ns e =
@@ -283,8 +284,8 @@ normal_means rule.CodePage d c o e =
     let long : length ys ≡ 8 = sym (ap length eq) ∙ l in
     let b : Octets ys = rw eq at o in
     rw (← same, ← is) (page_normal _ (val_part ys 0 4 b (omega arith)), simp (length-append, length_le) (omega arith))
-normal_means rule.Recipients d c o e = absurd (let z : ◌≡◌ {A = ℕ} 0 1 = cc in omega arith)
-normal_means rule.Properties d c o e = absurd (let z : ◌≡◌ {A = ℕ} 0 1 = cc in omega arith)
+normal_means rule.Recipients d c o e = absurd cc
+normal_means rule.Properties d c o e = absurd cc
 
 -- Admitted data mean something.
 pub admitted : (ρ : Rule) (d : List ℕ) → admits ρ d ≡ true → (c : Contents) × (means ρ d ≡ Some c)
@@ -293,7 +294,7 @@ admitted ρ d e = go (means ρ d) refl e
   where
     go : (o : Option Contents) → means ρ d ≡ o → is_some o ≡ true → (c : Contents) × (means ρ d ≡ Some c)
     go (Some c) is t = (c, is)
-    go None is t = let z : ◌≡◌ {A = ℕ} 0 1 = cc in absurd (omega arith)
+    go None is t = absurd cc
 
 pub means_same : NormalMeansSame
 unfolding admits
