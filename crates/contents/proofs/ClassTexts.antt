@@ -1,16 +1,16 @@
 -- The pair that data mean, by the text before their zero byte, which is short.
-use Rattle.std.proofs.Common.{◌≡◌, ℕ, ◌+◌, ◌-◌, ◌<◌, ◌≤◌, Bool, true, ◌&&◌, ◌||◌, leb, List, [], ◌∷◌, ◌++◌, length, take, drop, is_some, Some, None, Ok, Option, sym, refl, ap, ◌∙◌, inl, inr, arith}
+use Rattle.std.proofs.Common.{◌≡◌, ℕ, ◌+◌, ◌-◌, ◌<◌, ◌≤◌, Bool, true, ◌&&◌, leb, List, [], ◌∷◌, ◌++◌, length, take, drop, Some, None, Ok, sym, refl, ap, ◌∙◌, inl, inr, arith}
 use Rattle.std.proofs.lemmas.List.{length-append, take_at, take-take}
-use Rattle.std.proofs.lemmas.Bool.{and_parts, or_cases, cases_Bool, leb-true}
-use Rattle.source.specs.Bytes.{part, same_bytes}
+use Rattle.std.proofs.lemmas.Bool.{and_parts, cases_Bool, leb-true}
+use Rattle.source.specs.Bytes.{part}
 use Rattle.scan.specs.Scans.{asked}
 use Rattle.scan.specs.Texts.{before_zero, is_text8}
 use Rattle.scan.proofs.Numbers.{length_part}
 use Rattle.scan.proofs.Parts.{asked_got, asked_within}
-use Rattle.contents.specs.Classes.{Pair, pairs, old_prefix, means_pair, pair_from, pair_number, pair_of}
+use Rattle.contents.specs.Classes.{Pair, pairs, means_pair, pair_from, pair_number, pair_of}
 use Rattle.contents.specs.Options.{then}
 use Rattle.contents.proofs.Normal.{zero_gives}
-use Rattle.contents.proofs.Parts.{same_length}
+use Rattle.contents.proofs.Parts.{some_is, none_unless, then_some, same_length}
 
 -- A test over the whole table: no spelling has more than 50 bytes.
 abbrev short : List Pair → Bool
@@ -18,15 +18,7 @@ short [] = true
 short (p ∷ ps) = leb (length p.0) 31 && leb (length p.1) 50 && short ps
 
 means_short : (t : List ℕ) (p : Pair) → length p.0 ≤ 31 → length p.1 ≤ 50 → means_pair t p ≡ true → length t ≤ 50
-means_short t p a b e =
-    elim (or_cases (same_bytes t p.0 || same_bytes t p.1) (same_bytes t (old_prefix ++ p.0)) e) [
-      | inl f ↦
-          elim (or_cases (same_bytes t p.0) (same_bytes t p.1) f) [
-            | inl x ↦ omega (arith, same_length t p.0 x)
-            | inr y ↦ omega (arith, same_length t p.1 y)
-          ]
-      | inr z ↦ omega (arith, same_length t (old_prefix ++ p.0) z, length-append old_prefix p.0)
-    ]
+means_short t p a b e = grind (arith, same_length, length-append)
 
 pair_short : (t : List ℕ) (ps : List Pair) (n k : ℕ) → short ps ≡ true → pair_from t ps n ≡ Some k → length t ≤ 50
 pair_short t [] n k s e = absurd cc
@@ -38,27 +30,15 @@ pair_short t (p ∷ ps) n k s e =
       | inr other ↦ pair_short t ps (n + 1) k rest (rw other at e)
     ]
 
-long_none : (t : List ℕ) → 50 < length t → pair_number t ≡ None
-unfolding pair_number
-long_none t h = go (pair_from t pairs 1) refl
-  where
-    go : (o : Option ℕ) → pair_from t pairs 1 ≡ o → o ≡ None
-    go (Some k) e = absurd (omega (arith, pair_short t pairs 1 k refl e))
-    go None e = refl
-
 pub long_data : (ys : List ℕ) → 51 < length ys → pair_of ys ≡ None
-long_data ys h = go (before_zero ys) refl
-  where
-    go : (o : Option (List ℕ)) → before_zero ys ≡ o → then o pair_number ≡ None
-    go (Some t) e = long_none t (omega (arith, ap length (zero_gives ys t e).1, length-append t (0 ∷ [])))
-    go None e = refl
+unfolding pair_number
+long_data ys h =
+    none_unless (pair_of ys) (λ k e.
+    let (t, is, f) = then_some (before_zero ys) pair_number k e in
+    omega (arith, pair_short t pairs 1 k refl f, ap length (zero_gives ys t is).1, length-append t (0 ∷ [])))
 
 pub text_before : (ys : List ℕ) → is_text8 ys ≡ true → (t : List ℕ) × (before_zero ys ≡ Some t) × (ys ≡ t ++ 0 ∷ [])
-text_before ys e = go (before_zero ys) refl e
-  where
-    go : (o : Option (List ℕ)) → before_zero ys ≡ o → is_some o ≡ true → (t : List ℕ) × (before_zero ys ≡ Some t) × (ys ≡ t ++ 0 ∷ [])
-    go (Some t) is f = (t, is, (zero_gives ys t is).1)
-    go None is f = absurd cc
+text_before ys e = let (t, is) = some_is (before_zero ys) e in (t, is, (zero_gives ys t is).1)
 
 front_of : (xs : List ℕ) (place size : ℕ) (t : List ℕ) → size ≡ length t + 1 → part xs place size ≡ t ++ 0 ∷ [] → part xs place (size - 1) ≡ t
 unfolding part

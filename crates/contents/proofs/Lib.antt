@@ -3,5 +3,4 @@ pub mod Normal
 pub mod LittleEndian
 pub mod Parts
 pub mod Spellings
-pub mod Worked
 pub mod Writes

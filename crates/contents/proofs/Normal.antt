@@ -1,5 +1,5 @@
 -- The normal data of contents mean the contents, under every rule.
-use Rattle.std.proofs.Common.{◌≡◌, ℕ, zero, suc, ◌+◌, ◌-◌, ◌^◌, ◌<◌, ◌≤◌, Bool, true, false, ◌&&◌, ◌||◌, eqb, leb, List, [], ◌∷◌, ◌++◌, map, length, is_some, Some, None, Option, sym, refl, ap, ◌∙◌, inl, inr, arith}
+use Rattle.std.proofs.Common.{◌≡◌, ℕ, zero, suc, ◌+◌, ◌-◌, ◌^◌, ◌<◌, ◌≤◌, Bool, true, false, ◌&&◌, ◌||◌, eqb, leb, List, [], ◌∷◌, ◌++◌, map, length, Some, None, Option, sym, refl, ap, ◌∙◌, inl, inr, arith}
 use Rattle.std.specs.List.{AllByRecursion}
 use Rattle.std.proofs.lemmas.List.{length-append, length-map}
 use Rattle.std.proofs.lemmas.Bool.{eqb-true, and_parts, cases_Bool, le-leb, leb-true}
@@ -18,7 +18,7 @@ use Rattle.contents.specs.Contents.{Contents, text, class, date, digits, status,
 use Rattle.contents.specs.Laws.{NormalMeansSame, NormalDecides}
 use Rattle.scan.proofs.Numbers.{length_le, val_le}
 use Rattle.contents.proofs.LittleEndian.{val_part}
-use Rattle.contents.proofs.Parts.{where_some, also_some, then_some, exactly_some, exactly_all}
+use Rattle.contents.proofs.Parts.{some_is, where_some, also_some, then_some, exactly_some, exactly_all}
 
 -- Text: no zero before the last byte.
 abbrev pub NoZero : List ℕ → Type 0
@@ -99,9 +99,6 @@ date_at xs d l y m b h i s ok =
 pub month_small : (y m : ℕ) → month_length y m ≤ 31
 month_small y m = grind arith
 
-day_small : (y m d : ℕ) → leb d (month_length y m) ≡ true → d ≤ 31
-day_small y m d e = let h = leb-true d (month_length y m) e in omega (arith, month_small y m)
-
 pub record Small (d : Date) : Type 0 where
   pub year : d.year ≤ 9999
   pub month : d.month ≤ 12
@@ -111,23 +108,12 @@ pub record Small (d : Date) : Type 0 where
   pub second : d.second ≤ 59
 
 pub date_small : (d : Date) → is_date d ≡ true → Small d
-date_small d e =
-    let (e₇, c₈) = and_parts _ _ e in
-    let (e₆, c₇) = and_parts _ _ e₇ in
-    let (e₅, c₆) = and_parts _ _ e₆ in
-    let (e₄, c₅) = and_parts _ _ e₅ in
-    let (e₃, c₄) = and_parts _ _ e₄ in
-    let (e₂, c₃) = and_parts _ _ e₃ in
-    let (e₁, c₂) = and_parts _ _ e₂ in
-    let (c₀, c₁) = and_parts _ _ e₁ in
-    record {
-      year = leb-true d.year 9999 c₁;
-      month = leb-true d.month 12 c₃;
-      day = day_small d.year d.month d.day c₅;
-      hour = leb-true d.hour 23 c₆;
-      minute = leb-true d.minute 59 c₇;
-      second = leb-true d.second 59 c₈;
-    }
+date_small d e = go (month_length d.year d.month) (month_small d.year d.month) e
+  where
+    go : (n : ℕ) → n ≤ 31
+        → (leb 1601 d.year && leb d.year 9999 && leb 1 d.month && leb d.month 12 && leb 1 d.day && leb d.day n && leb d.hour 23 && leb d.minute 59 && leb d.second 59) ≡ true
+        → Small d
+    go n h e = record { year = grind arith; month = grind arith; day = grind arith; hour = grind arith; minute = grind arith; second = grind arith }
 
 date_normal : (d : Date) → is_date d ≡ true → date_of (normal (date d)) ≡ Some d
 unfolding normal le val part
@@ -290,11 +276,7 @@ normal_means rule.Properties d c o e = absurd cc
 -- Admitted data mean something.
 pub admitted : (ρ : Rule) (d : List ℕ) → admits ρ d ≡ true → (c : Contents) × (means ρ d ≡ Some c)
 unfolding admits
-admitted ρ d e = go (means ρ d) refl e
-  where
-    go : (o : Option Contents) → means ρ d ≡ o → is_some o ≡ true → (c : Contents) × (means ρ d ≡ Some c)
-    go (Some c) is t = (c, is)
-    go None is t = absurd cc
+admitted ρ d e = some_is (means ρ d) e
 
 pub means_same : NormalMeansSame
 unfolding admits

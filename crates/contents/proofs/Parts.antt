@@ -15,6 +15,14 @@ use Rattle.contents.specs.Calendar.{word}
 use Rattle.contents.specs.Contents.{right_rendering, version_data, is_version}
 use Rattle.contents.specs.Options.{where_true, then, exactly, number}
 
+pub some_is : {A : Type 0} (o : Option A) → is_some o ≡ true → (a : A) × (o ≡ Some a)
+some_is (Some a) e = (a, refl)
+some_is None e = absurd cc
+
+pub none_unless : {A : Type 0} (o : Option A) → ((a : A) → o ≡ Some a → ⊥) → o ≡ None
+none_unless (Some a) h = absurd (h a refl)
+none_unless None h = refl
+
 pub where_some : {A : Type 0} (b : Bool) (a c : A) → where_true b a ≡ Some c → (b ≡ true) × (a ≡ c)
 where_some true a c e = (refl, cc)
 where_some false a c e = absurd cc
@@ -67,24 +75,10 @@ unfolding part
 get_d_part xs p n i h = rw (get_or-take, get_or-drop)
 
 pub word_is : (xs : List ℕ) (k : ℕ) → 2 * k + 1 < length xs → get_or xs (2 * k) 0 + get_or xs (2 * k + 1) 0 * 256 ≡ word xs k
-word_is xs k h =
-    let l : length (part xs (2 * k) 2) ≡ 2 = length_part xs (2 * k) 2 (omega arith) in
-    let a = get_d_part xs (2 * k) 2 0 (omega arith) in
-    let b = get_d_part xs (2 * k) 2 1 (omega arith) in
-    omega (arith, val_two (part xs (2 * k) 2) l, rw add-zero at a, b)
+word_is xs k h = grind (arith, val_two, length_part, get_d_part, add-zero)
 
 quad_is : (xs : List ℕ) (p : ℕ) → p + 4 ≤ length xs → get_or xs (p + 0) 0 + get_or xs (p + 1) 0 * 256 + get_or xs (p + 2) 0 * 65536 + get_or xs (p + 3) 0 * 16777216 ≡ val (part xs p 4)
-quad_is xs p h =
-    let l : length (part xs p 4) ≡ 4 = length_part xs p 4 h in
-    let a = get_d_part xs p 4 0 (omega arith) in
-    let b = get_d_part xs p 4 1 (omega arith) in
-    let c = get_d_part xs p 4 2 (omega arith) in
-    let d = get_d_part xs p 4 3 (omega arith) in
-    omega (arith, val_four (part xs p 4) l, a, b, c, d)
-
-pub some_where : {A : Type 0} (b : Bool) (a : A) → is_some (where_true b a) ≡ b
-some_where true a = refl
-some_where false a = refl
+quad_is xs p h = grind (arith, val_four, length_part, get_d_part)
 
 pub rendering_tests : (b : List ℕ) (k f : ℕ) → length b ≡ 14 → k ≡ get_or b 0 0 + get_or b 1 0 * 256
     → f ≡ get_or b 10 0 + get_or b 11 0 * 256 + get_or b 12 0 * 65536 + get_or b 13 0 * 16777216

@@ -71,7 +71,7 @@ pub fn normal_data_decide() -> u8
 }
 
 // Dates, weekdays, flags and classes at examples.
-#[tactic(auto, using(crate::proofs::Worked::worked))]
+#[tactic(auto, unfolding(source::specs::Bytes::part, source::specs::Bytes::val, source::specs::Bytes::le, scan::specs::Texts::before_zero, crate::specs::Options::exactly, crate::specs::Calendar::days_before, crate::specs::Calendar::weekday, crate::specs::Classes::pair_number, crate::specs::Contents::means, crate::specs::Contents::admits))]
 pub fn worked_examples() -> u8
     ensures { Worked }
 {

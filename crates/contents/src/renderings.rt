@@ -23,7 +23,6 @@ fn has_right_parts(bytes: &[u8; 14]) -> bool
     are_right(kind, flags)
 }
 
-#[tactic(auto, using(crate::proofs::Parts::some_where))]
 fn is_right(bytes: Option<[u8; 14]>) -> bool
     ensures { result ≡ is_some (then bytes checked_rendering) }
 {
