@@ -1,7 +1,6 @@
 -- The pair that data mean, by the text before their zero byte, which is short.
-use Rattle.std.proofs.Common.{◌≡◌, ℕ, ◌+◌, ◌-◌, ◌<◌, ◌≤◌, Bool, true, ◌&&◌, leb, List, [], ◌∷◌, ◌++◌, length, take, drop, Some, None, Ok, sym, refl, ap, ◌∙◌, inl, inr, arith}
+use Rattle.std.proofs.Common.{◌≡◌, ℕ, ◌+◌, ◌-◌, ◌<◌, ◌≤◌, Bool, true, ◌&&◌, leb, List, [], ◌∷◌, ◌++◌, length, take, drop, Some, None, Ok, sym, refl, ap, ◌∙◌, arith}
 use Rattle.std.proofs.lemmas.List.{length-append, take_at, take-take}
-use Rattle.std.proofs.lemmas.Bool.{and_parts, cases_Bool, leb-true}
 use Rattle.source.specs.Bytes.{part}
 use Rattle.scan.specs.Scans.{asked}
 use Rattle.scan.specs.Texts.{before_zero, is_text8}
@@ -22,13 +21,7 @@ means_short t p a b e = grind (arith, same_length, length-append)
 
 pair_short : (t : List ℕ) (ps : List Pair) (n k : ℕ) → short ps ≡ true → pair_from t ps n ≡ Some k → length t ≤ 50
 pair_short t [] n k s e = absurd cc
-pair_short t (p ∷ ps) n k s e =
-    let (two, rest) = and_parts _ _ s in
-    let (a, b) = and_parts _ _ two in
-    elim (cases_Bool (means_pair t p)) [
-      | inl y ↦ means_short t p (leb-true _ _ a) (leb-true _ _ b) y
-      | inr other ↦ pair_short t ps (n + 1) k rest (rw other at e)
-    ]
+pair_short t (p ∷ ps) n k s e = grind (arith, means_short t p, pair_short t ps (n + 1) k)
 
 pub long_data : (ys : List ℕ) → 51 < length ys → pair_of ys ≡ None
 unfolding pair_number
@@ -36,9 +29,6 @@ long_data ys h =
     none_unless (pair_of ys) (λ k e.
     let (t, is, f) = then_some (before_zero ys) pair_number k e in
     omega (arith, pair_short t pairs 1 k refl f, ap length (zero_gives ys t is).1, length-append t (0 ∷ [])))
-
-pub text_before : (ys : List ℕ) → is_text8 ys ≡ true → (t : List ℕ) × (before_zero ys ≡ Some t) × (ys ≡ t ++ 0 ∷ [])
-text_before ys e = let (t, is) = some_is (before_zero ys) e in (t, is, (zero_gives ys t is).1)
 
 front_of : (xs : List ℕ) (place size : ℕ) (t : List ℕ) → size ≡ length t + 1 → part xs place size ≡ t ++ 0 ∷ [] → part xs place (size - 1) ≡ t
 unfolding part
@@ -51,7 +41,8 @@ module _ (xs : List ℕ) (place size : ℕ) (b : Bool) (got : Ok b ≡ asked is_
   within = (asked_got is_text8 xs place size b got).0
 
   is_text : (t : List ℕ) × (before_zero (part xs place size) ≡ Some t) × (part xs place size ≡ t ++ 0 ∷ [])
-  is_text = text_before (part xs place size) (sym (asked_got is_text8 xs place size b got).1 ∙ y)
+  is_text =
+      let (t, is) = some_is (before_zero (part xs place size)) (sym (asked_got is_text8 xs place size b got).1 ∙ y) in (t, is, (zero_gives (part xs place size) t is).1)
 
   sized : size ≡ length is_text.0 + 1
   sized = omega (arith, length_part xs place size within, ap length is_text.2, length-append is_text.0 (0 ∷ []))
@@ -59,10 +50,9 @@ module _ (xs : List ℕ) (place size : ℕ) (b : Bool) (got : Ok b ≡ asked is_
   pub text_size : 1 ≤ size
   text_size = omega (arith, sized)
 
-  pub class_before_zero : asked pair_number xs place (size - 1) ≡ asked pair_of xs place size
-  class_before_zero =
-      let (t, is, e) = is_text in
-      let f = front_of xs place size t sized e in
-      let h = within in
-      let s = sized in
-      asked_within pair_number xs place (size - 1) (omega arith) ∙ ap (λ l. Ok (pair_number l)) f ∙ ap (λ o. Ok (then o pair_number)) (sym is) ∙ sym (asked_within pair_of xs place size h)
+  pub class_read : (bytes : List ℕ) (m : ℕ) → m ≡ size - 1 → bytes ≡ take m (drop place xs) → Ok (pair_number bytes) ≡ asked pair_of xs place size
+  unfolding part
+  class_read bytes m s e =
+      let (t, is, split) = is_text in
+      let front : bytes ≡ t = e ∙ ap (λ k. take k (drop place xs)) s ∙ front_of xs place size t sized split in
+      ap (λ l. Ok (pair_number l)) front ∙ ap (λ o. Ok (then o pair_number)) (sym is) ∙ sym (asked_within pair_of xs place size within)

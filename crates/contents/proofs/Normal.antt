@@ -11,7 +11,7 @@ use Rattle.contents.specs.declared.dates.Date.{Date}
 use Rattle.contents.specs.declared.statuses.Status.{Status}
 use Rattle.contents.specs.Options.{then, exactly, number}
 use Rattle.contents.specs.Calendar.{month_length, is_date, word, date_in, checked, date_of}
-use Rattle.contents.specs.Classes.{Pair, pairs, means_pair, pair_from, pair_number}
+use Rattle.contents.specs.Classes.{Pair, pairs, pair_from, pair_number}
 use Rattle.contents.specs.Digits.{digit, digit_pairs, capital}
 use Rattle.contents.specs.Status.{status_in}
 use Rattle.contents.specs.Contents.{Contents, text, class, date, digits, status, importance, truth, raw, rendering, version, code_page, class_of, ranked, importance_in, truth_in, code_page_in, right_rendering, rendering_in, checked_rendering, is_version, means, normal, admits, normal_of, normal_data}
@@ -51,11 +51,7 @@ zero_gives (x ∷ xs) t e =
 -- Classes.
 pair_range : (t : List ℕ) (ps : List Pair) (n k : ℕ) → pair_from t ps n ≡ Some k → (n ≤ k) × (k < n + length ps)
 pair_range t [] n k e = absurd cc
-pair_range t (p ∷ ps) n k e =
-    elim (cases_Bool (means_pair t p)) [
-      | inl y ↦ let here : Some n ≡ Some k = rw y at e in let same : n ≡ k = cc in omega arith
-      | inr other ↦ let there : pair_from t ps (n + 1) ≡ Some k = rw other at e in omega (arith, pair_range t ps (n + 1) k there)
-    ]
+pair_range t (p ∷ ps) n k e = grind (arith, pair_range t ps (n + 1) k)
 
 pub pair_within : (t : List ℕ) (k : ℕ) → pair_number t ≡ Some k → (1 ≤ k) × (k < 9)
 unfolding pair_number

@@ -83,17 +83,7 @@ quad_is xs p h = grind (arith, val_four, length_part, get_d_part)
 pub rendering_tests : (b : List ℕ) (k f : ℕ) → length b ≡ 14 → k ≡ get_or b 0 0 + get_or b 1 0 * 256
     → f ≡ get_or b 10 0 + get_or b 11 0 * 256 + get_or b 12 0 * 65536 + get_or b 13 0 * 16777216
     → ((eqb k 1 || eqb k 2) && leb f 1) ≡ right_rendering b
-rendering_tests b k f l e g =
-    let kind : k ≡ val (part b 0 2) = e ∙ word_is b 0 (omega arith) in
-    let flags : f ≡ val (part b 10 4) = g ∙ quad_is b 10 (omega arith) in
-    rw (kind, flags)
-
--- What is said of bytes that were fetched, and where they end too early.
-pub fetched_asked : {A : Type 0} (f : List ℕ → A) (xs bytes : List ℕ) (place size m : ℕ) → place + m ≤ length xs → m ≡ size → bytes ≡ take m (drop place xs)
-    → Ok (f bytes) ≡ asked f xs place size
-unfolding part
-fetched_asked f xs bytes place size m l s e =
-    ap (λ ys. Ok (f ys)) (e ∙ ap (λ k. take k (drop place xs)) s) ∙ sym (asked_within f xs place size (omega arith))
+rendering_tests b k f l e g = rw (e ∙ word_is b 0 (omega arith), g ∙ quad_is b 10 (omega arith))
 
 -- Bytes of another number than the version's.
 pub same_length : (xs ys : List ℕ) → same_bytes xs ys ≡ true → length xs ≡ length ys

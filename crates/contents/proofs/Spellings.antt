@@ -1,5 +1,5 @@
 -- What a table of pairs spells, pair by pair; and texts that begin with a prefix.
-use Rattle.std.proofs.Common.{◌≡◌, ℕ, zero, suc, ◌<◌, false, ◌⊎◌, List, [], ◌∷◌, ◌++◌, map, length, get_or, sym, refl, ap, ◌∙◌, inl, inr, arith, rules}
+use Rattle.std.proofs.Common.{◌≡◌, ℕ, zero, suc, ◌<◌, false, ◌⊎◌, List, [], ◌∷◌, ◌++◌, map, length, get_or, sym, refl, ap, ◌∙◌, arith, rules}
 use Rattle.std.proofs.lemmas.Slice.Eq.{compares_Decides}
 use Rattle.std.proofs.lemmas.Bool.{eq-eqb, false_from_ne_true}
 use Rattle.source.specs.Bytes.{same_bytes}
@@ -27,5 +27,4 @@ pub text_none : (table : List Pair) (k : ℕ) → (k ≡ 0) ⊎ ((k ≡ 0 → �
 text_none [] k h = refl
 text_none (p ∷ ps) zero h = refl
 text_none (p ∷ ps) (suc zero) h = absurd (grind arith)
-text_none (p ∷ ps) (suc (suc k)) (inl e) = absurd (omega arith)
-text_none (p ∷ ps) (suc (suc k)) (inr e) = text_none ps (suc k) (inr (λ f. omega arith, omega (arith, e.1)))
+text_none (p ∷ ps) (suc (suc k)) h = text_none ps (suc k) (grind arith)
