@@ -1,16 +1,15 @@
 -- The pair that data mean, by the text before their zero byte, which is short.
-use Rattle.std.proofs.Common.{◌≡◌, ℕ, ◌+◌, ◌-◌, ◌<◌, ◌≤◌, Bool, true, false, ◌&&◌, ◌||◌, leb, List, [], ◌∷◌, ◌++◌, length, take, drop, is_some, Some, None, Ok, Option, sym, refl, ap, ◌∙◌, inl, inr, arith}
+use Rattle.std.proofs.Common.{◌≡◌, ℕ, ◌+◌, ◌-◌, ◌<◌, ◌≤◌, Bool, true, ◌&&◌, leb, List, [], ◌∷◌, ◌++◌, length, take, drop, Some, None, Ok, sym, refl, ap, ◌∙◌, arith}
 use Rattle.std.proofs.lemmas.List.{length-append, take_at, take-take}
-use Rattle.std.proofs.lemmas.Bool.{and_parts, or_cases, cases_Bool, leb-true}
-use Rattle.source.specs.Bytes.{part, same_bytes}
+use Rattle.source.specs.Bytes.{part}
 use Rattle.scan.specs.Scans.{asked}
 use Rattle.scan.specs.Texts.{before_zero, is_text8}
 use Rattle.scan.proofs.Numbers.{length_part}
 use Rattle.scan.proofs.Parts.{asked_got, asked_within}
-use Rattle.contents.specs.Classes.{Pair, pairs, old_prefix, means_pair, pair_from, pair_number, pair_of}
+use Rattle.contents.specs.Classes.{Pair, pairs, means_pair, pair_from, pair_number, pair_of}
 use Rattle.contents.specs.Options.{then}
 use Rattle.contents.proofs.Normal.{zero_gives}
-use Rattle.contents.proofs.Parts.{same_length}
+use Rattle.contents.proofs.Parts.{some_is, none_unless, then_some, same_length}
 
 -- A test over the whole table: no spelling has more than 50 bytes.
 abbrev short : List Pair → Bool
@@ -18,51 +17,18 @@ short [] = true
 short (p ∷ ps) = leb (length p.0) 31 && leb (length p.1) 50 && short ps
 
 means_short : (t : List ℕ) (p : Pair) → length p.0 ≤ 31 → length p.1 ≤ 50 → means_pair t p ≡ true → length t ≤ 50
-means_short t p a b e =
-    elim (or_cases (same_bytes t p.0 || same_bytes t p.1) (same_bytes t (old_prefix ++ p.0)) e) [
-      | inl f ↦
-          elim (or_cases (same_bytes t p.0) (same_bytes t p.1) f) [
-            | inl x ↦ omega (arith, same_length t p.0 x)
-            | inr y ↦ omega (arith, same_length t p.1 y)
-          ]
-      | inr z ↦ omega (arith, same_length t (old_prefix ++ p.0) z, length-append old_prefix p.0)
-    ]
+means_short t p a b e = grind (arith, same_length, length-append)
 
 pair_short : (t : List ℕ) (ps : List Pair) (n k : ℕ) → short ps ≡ true → pair_from t ps n ≡ Some k → length t ≤ 50
-pair_short t [] n k s e = absurd (let z : ◌≡◌ {A = ℕ} 0 1 = cc in omega arith)
-pair_short t (p ∷ ps) n k s e =
-    let (two, rest) = and_parts _ _ s in
-    let (a, b) = and_parts _ _ two in
-    elim (cases_Bool (means_pair t p)) [
-      | inl y ↦ means_short t p (leb-true _ _ a) (leb-true _ _ b) y
-      | inr other ↦ pair_short t ps (n + 1) k rest (rw other at e)
-    ]
+pair_short t [] n k s e = absurd cc
+pair_short t (p ∷ ps) n k s e = grind (arith, means_short t p, pair_short t ps (n + 1) k)
 
-long_none : (t : List ℕ) → 50 < length t → pair_number t ≡ None
+pub long_data : (ys : List ℕ) → 51 < length ys → pair_of ys ≡ None
 unfolding pair_number
-long_none t h = go (pair_from t pairs 1) refl
-  where
-    go : (o : Option ℕ) → pair_from t pairs 1 ≡ o → o ≡ None
-    go (Some k) e = absurd (omega (arith, pair_short t pairs 1 k refl e))
-    go None e = refl
-
-then_none : {A B : Type 0} (o : Option A) (f : A → Option B) → is_some o ≡ false → then o f ≡ None
-then_none (Some a) f e = absurd (let z : ◌≡◌ {A = ℕ} 0 1 = cc in omega arith)
-then_none None f e = refl
-
-long_data : (ys : List ℕ) → 51 < length ys → pair_of ys ≡ None
-long_data ys h = go (before_zero ys) refl
-  where
-    go : (o : Option (List ℕ)) → before_zero ys ≡ o → then o pair_number ≡ None
-    go (Some t) e = long_none t (omega (arith, ap length (zero_gives ys t e).1, length-append t (0 ∷ [])))
-    go None e = refl
-
-pub text_before : (ys : List ℕ) → is_text8 ys ≡ true → (t : List ℕ) × (before_zero ys ≡ Some t) × (ys ≡ t ++ 0 ∷ [])
-text_before ys e = go (before_zero ys) refl e
-  where
-    go : (o : Option (List ℕ)) → before_zero ys ≡ o → is_some o ≡ true → (t : List ℕ) × (before_zero ys ≡ Some t) × (ys ≡ t ++ 0 ∷ [])
-    go (Some t) is f = (t, is, (zero_gives ys t is).1)
-    go None is f = absurd (let z : ◌≡◌ {A = ℕ} 0 1 = cc in omega arith)
+long_data ys h =
+    none_unless (pair_of ys) (λ k e.
+    let (t, is, f) = then_some (before_zero ys) pair_number k e in
+    omega (arith, pair_short t pairs 1 k refl f, ap length (zero_gives ys t is).1, length-append t (0 ∷ [])))
 
 front_of : (xs : List ℕ) (place size : ℕ) (t : List ℕ) → size ≡ length t + 1 → part xs place size ≡ t ++ 0 ∷ [] → part xs place (size - 1) ≡ t
 unfolding part
@@ -70,30 +36,23 @@ front_of xs place size t s e =
     let n : size - 1 ≡ length t = omega arith in
     sym (take-take (size - 1) size (drop place xs) (omega arith)) ∙ ap (take (size - 1)) e ∙ take_at t (0 ∷ []) (size - 1) (sym n)
 
-module _ (xs : List ℕ) (place size : ℕ) (b : Bool) (got : Ok b ≡ asked is_text8 xs place size) where
+module _ (xs : List ℕ) (place size : ℕ) (b : Bool) (got : Ok b ≡ asked is_text8 xs place size) (y : b ≡ true) where
   within : place + size ≤ length xs
   within = (asked_got is_text8 xs place size b got).0
 
-  is_text : b ≡ is_text8 (part xs place size)
-  is_text = (asked_got is_text8 xs place size b got).1
+  is_text : (t : List ℕ) × (before_zero (part xs place size) ≡ Some t) × (part xs place size ≡ t ++ 0 ∷ [])
+  is_text =
+      let (t, is) = some_is (before_zero (part xs place size)) (sym (asked_got is_text8 xs place size b got).1 ∙ y) in (t, is, (zero_gives (part xs place size) t is).1)
 
-  pub class_not_text : b ≡ false → Ok None ≡ asked pair_of xs place size
-  class_not_text f =
-      let none = then_none (before_zero (part xs place size)) pair_number (sym is_text ∙ f) in ap Ok (sym none) ∙ sym (asked_within pair_of xs place size within)
+  sized : size ≡ length is_text.0 + 1
+  sized = omega (arith, length_part xs place size within, ap length is_text.2, length-append is_text.0 (0 ∷ []))
 
-  pub class_too_long : 51 < size → Ok None ≡ asked pair_of xs place size
-  class_too_long long =
-      let none = long_data (part xs place size) (omega (arith, length_part xs place size within)) in ap Ok (sym none) ∙ sym (asked_within pair_of xs place size within)
+  pub text_size : 1 ≤ size
+  text_size = omega (arith, sized)
 
-  sized : (t : List ℕ) → part xs place size ≡ t ++ 0 ∷ [] → size ≡ length t + 1
-  sized t e = omega (arith, length_part xs place size within, ap length e, length-append t (0 ∷ []))
-
-  pub text_size : b ≡ true → 1 ≤ size
-  text_size y = let (t, is, e) = text_before (part xs place size) (sym is_text ∙ y) in omega (arith, sized t e)
-
-  pub class_before_zero : b ≡ true → asked pair_number xs place (size - 1) ≡ asked pair_of xs place size
-  class_before_zero y =
-      let (t, is, e) = text_before (part xs place size) (sym is_text ∙ y) in
-      let f = front_of xs place size t (sized t e) e in
-      let h = within in
-      asked_within pair_number xs place (size - 1) (omega arith) ∙ ap (λ l. Ok (pair_number l)) f ∙ ap (λ o. Ok (then o pair_number)) (sym is) ∙ sym (asked_within pair_of xs place size h)
+  pub class_read : (bytes : List ℕ) (m : ℕ) → m ≡ size - 1 → bytes ≡ take m (drop place xs) → Ok (pair_number bytes) ≡ asked pair_of xs place size
+  unfolding part
+  class_read bytes m s e =
+      let (t, is, split) = is_text in
+      let front : bytes ≡ t = e ∙ ap (λ k. take k (drop place xs)) s ∙ front_of xs place size t sized split in
+      ap (λ l. Ok (pair_number l)) front ∙ ap (λ o. Ok (then o pair_number)) (sym is) ∙ sym (asked_within pair_of xs place size within)

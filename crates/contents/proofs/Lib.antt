@@ -1,9 +1,6 @@
-pub mod Admitted
 pub mod ClassTexts
 pub mod Normal
-pub mod Days
 pub mod LittleEndian
 pub mod Parts
 pub mod Spellings
-pub mod Worked
 pub mod Writes

@@ -1,20 +1,9 @@
 -- Little-endian numbers and parts of bytes.
-use Rattle.std.proofs.Common.{◌≡◌, ℕ, zero, suc, ◌+◌, ◌*◌, ◌/◌, ◌%◌, ◌^◌, ◌<◌, ◌≤◌, List, [], ◌∷◌, ◌++◌, length, drop, sym, refl, ap, ◌∙◌, pow-suc, arith, rules}
-use Rattle.std.proofs.lemmas.Nat.{div_below}
+use Rattle.std.proofs.Common.{◌≡◌, ℕ, ◌+◌, ◌*◌, ◌/◌, ◌%◌, ◌^◌, ◌<◌, ◌≤◌, List, [], ◌∷◌, ◌++◌, length, drop, sym, refl, ap, ◌∙◌, pow-suc, arith, rules}
 use Rattle.std.proofs.lemmas.List.{places, same_lists, take_all}
 use Rattle.std.proofs.ByRecursion.{All-take, All-drop}
 use Rattle.source.specs.Bytes.{Octets, le, val, part}
 use Rattle.scan.proofs.Numbers.{length_part}
-
-pub length_le : (w n : ℕ) → length (le w n) ≡ w
-unfolding le
-length_le zero n = refl
-length_le (suc w) n = ap suc (length_le w (n / 256))
-
-pub val_le : (w n : ℕ) → n < 256 ^ w → val (le w n) ≡ n
-unfolding le val
-val_le zero n h = omega arith
-val_le (suc w) n h = omega (arith, val_le w (n / 256) (div_below n 256 (256 ^ w) (omega arith) (omega arith)))
 
 pub val_lt : (xs : List ℕ) → Octets xs → val xs < 256 ^ length xs
 unfolding val

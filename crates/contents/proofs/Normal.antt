@@ -1,5 +1,5 @@
 -- The normal data of contents mean the contents, under every rule.
-use Rattle.std.proofs.Common.{◌≡◌, ℕ, zero, suc, ◌+◌, ◌-◌, ◌^◌, ◌<◌, ◌≤◌, Bool, true, false, ◌&&◌, ◌||◌, eqb, leb, List, [], ◌∷◌, ◌++◌, map, length, is_some, Some, None, Option, sym, refl, ap, ◌∙◌, inl, inr, arith}
+use Rattle.std.proofs.Common.{◌≡◌, ℕ, zero, suc, ◌+◌, ◌-◌, ◌^◌, ◌<◌, ◌≤◌, Bool, true, false, ◌&&◌, ◌||◌, eqb, leb, List, [], ◌∷◌, ◌++◌, map, length, Some, None, Option, sym, refl, ap, ◌∙◌, inl, inr, arith}
 use Rattle.std.specs.List.{AllByRecursion}
 use Rattle.std.proofs.lemmas.List.{length-append, length-map}
 use Rattle.std.proofs.lemmas.Bool.{eqb-true, and_parts, cases_Bool, le-leb, leb-true}
@@ -11,13 +11,14 @@ use Rattle.contents.specs.declared.dates.Date.{Date}
 use Rattle.contents.specs.declared.statuses.Status.{Status}
 use Rattle.contents.specs.Options.{then, exactly, number}
 use Rattle.contents.specs.Calendar.{month_length, is_date, word, date_in, checked, date_of}
-use Rattle.contents.specs.Classes.{Pair, pairs, means_pair, pair_from, pair_number}
+use Rattle.contents.specs.Classes.{Pair, pairs, pair_from, pair_number}
 use Rattle.contents.specs.Digits.{digit, digit_pairs, capital}
 use Rattle.contents.specs.Status.{status_in}
 use Rattle.contents.specs.Contents.{Contents, text, class, date, digits, status, importance, truth, raw, rendering, version, code_page, class_of, ranked, importance_in, truth_in, code_page_in, right_rendering, rendering_in, checked_rendering, is_version, means, normal, admits, normal_of, normal_data}
 use Rattle.contents.specs.Laws.{NormalMeansSame, NormalDecides}
-use Rattle.contents.proofs.LittleEndian.{length_le, val_le, val_part}
-use Rattle.contents.proofs.Parts.{where_some, also_some, then_some, exactly_some, exactly_all}
+use Rattle.scan.proofs.Numbers.{length_le, val_le}
+use Rattle.contents.proofs.LittleEndian.{val_part}
+use Rattle.contents.proofs.Parts.{some_is, where_some, also_some, then_some, exactly_some, exactly_all}
 
 -- Text: no zero before the last byte.
 abbrev pub NoZero : List ℕ → Type 0
@@ -30,11 +31,11 @@ zero_back (x ∷ t) h = rw (h.0, zero_back t h.1)
 
 nothing_some : (xs t : List ℕ) → nothing_more xs ≡ Some t → (xs ≡ []) × (t ≡ [])
 nothing_some [] t e = (refl, cc)
-nothing_some (x ∷ xs) t e = absurd (let z : ◌≡◌ {A = ℕ} 0 1 = cc in omega arith)
+nothing_some (x ∷ xs) t e = absurd cc
 
 pub zero_gives : (xs t : List ℕ) → before_zero xs ≡ Some t → NoZero t × (xs ≡ t ++ 0 ∷ [])
 unfolding before_zero
-zero_gives [] t e = absurd (let z : ◌≡◌ {A = ℕ} 0 1 = cc in omega arith)
+zero_gives [] t e = absurd cc
 zero_gives (x ∷ xs) t e =
     elim (cases_Bool (eqb x 0)) [
       | inl z ↦
@@ -49,12 +50,8 @@ zero_gives (x ∷ xs) t e =
 
 -- Classes.
 pair_range : (t : List ℕ) (ps : List Pair) (n k : ℕ) → pair_from t ps n ≡ Some k → (n ≤ k) × (k < n + length ps)
-pair_range t [] n k e = absurd (let z : ◌≡◌ {A = ℕ} 0 1 = cc in omega arith)
-pair_range t (p ∷ ps) n k e =
-    elim (cases_Bool (means_pair t p)) [
-      | inl y ↦ let here : Some n ≡ Some k = rw y at e in let same : n ≡ k = cc in omega arith
-      | inr other ↦ let there : pair_from t ps (n + 1) ≡ Some k = rw other at e in omega (arith, pair_range t ps (n + 1) k there)
-    ]
+pair_range t [] n k e = absurd cc
+pair_range t (p ∷ ps) n k e = grind (arith, pair_range t ps (n + 1) k)
 
 pub pair_within : (t : List ℕ) (k : ℕ) → pair_number t ≡ Some k → (1 ≤ k) × (k < 9)
 unfolding pair_number
@@ -98,9 +95,6 @@ date_at xs d l y m b h i s ok =
 pub month_small : (y m : ℕ) → month_length y m ≤ 31
 month_small y m = grind arith
 
-day_small : (y m d : ℕ) → leb d (month_length y m) ≡ true → d ≤ 31
-day_small y m d e = let h = leb-true d (month_length y m) e in omega (arith, month_small y m)
-
 pub record Small (d : Date) : Type 0 where
   pub year : d.year ≤ 9999
   pub month : d.month ≤ 12
@@ -110,23 +104,12 @@ pub record Small (d : Date) : Type 0 where
   pub second : d.second ≤ 59
 
 pub date_small : (d : Date) → is_date d ≡ true → Small d
-date_small d e =
-    let (e₇, c₈) = and_parts _ _ e in
-    let (e₆, c₇) = and_parts _ _ e₇ in
-    let (e₅, c₆) = and_parts _ _ e₆ in
-    let (e₄, c₅) = and_parts _ _ e₅ in
-    let (e₃, c₄) = and_parts _ _ e₄ in
-    let (e₂, c₃) = and_parts _ _ e₃ in
-    let (e₁, c₂) = and_parts _ _ e₂ in
-    let (c₀, c₁) = and_parts _ _ e₁ in
-    record {
-      year = leb-true d.year 9999 c₁;
-      month = leb-true d.month 12 c₃;
-      day = day_small d.year d.month d.day c₅;
-      hour = leb-true d.hour 23 c₆;
-      minute = leb-true d.minute 59 c₇;
-      second = leb-true d.second 59 c₈;
-    }
+date_small d e = go (month_length d.year d.month) (month_small d.year d.month) e
+  where
+    go : (n : ℕ) → n ≤ 31
+        → (leb 1601 d.year && leb d.year 9999 && leb 1 d.month && leb d.month 12 && leb 1 d.day && leb d.day n && leb d.hour 23 && leb d.minute 59 && leb d.second 59) ≡ true
+        → Small d
+    go n h e = record { year = grind arith; month = grind arith; day = grind arith; hour = grind arith; minute = grind arith; second = grind arith }
 
 date_normal : (d : Date) → is_date d ≡ true → date_of (normal (date d)) ≡ Some d
 unfolding normal le val part
@@ -143,7 +126,7 @@ digit_back n h = grind arith
 
 digits_back : (cs ns : List ℕ) → digit_pairs cs ≡ Some ns → (digit_pairs (map capital ns ++ 0 ∷ []) ≡ Some ns) × (suc (length ns) ≡ length cs)
 unfolding digit_pairs
-digits_back [] ns e = absurd (let z : ◌≡◌ {A = ℕ} 0 1 = cc in omega arith)
+digits_back [] ns e = absurd cc
 digits_back (c ∷ []) ns e =
     let (t, same) = where_some (eqb c 0) [] ns e in rw (← same) (refl, refl)
 digits_back (c ∷ (d ∷ rest)) ns e =
@@ -283,17 +266,13 @@ normal_means rule.CodePage d c o e =
     let long : length ys ≡ 8 = sym (ap length eq) ∙ l in
     let b : Octets ys = rw eq at o in
     rw (← same, ← is) (page_normal _ (val_part ys 0 4 b (omega arith)), simp (length-append, length_le) (omega arith))
-normal_means rule.Recipients d c o e = absurd (let z : ◌≡◌ {A = ℕ} 0 1 = cc in omega arith)
-normal_means rule.Properties d c o e = absurd (let z : ◌≡◌ {A = ℕ} 0 1 = cc in omega arith)
+normal_means rule.Recipients d c o e = absurd cc
+normal_means rule.Properties d c o e = absurd cc
 
 -- Admitted data mean something.
 pub admitted : (ρ : Rule) (d : List ℕ) → admits ρ d ≡ true → (c : Contents) × (means ρ d ≡ Some c)
 unfolding admits
-admitted ρ d e = go (means ρ d) refl e
-  where
-    go : (o : Option Contents) → means ρ d ≡ o → is_some o ≡ true → (c : Contents) × (means ρ d ≡ Some c)
-    go (Some c) is t = (c, is)
-    go None is t = let z : ◌≡◌ {A = ℕ} 0 1 = cc in absurd (omega arith)
+admitted ρ d e = some_is (means ρ d) e
 
 pub means_same : NormalMeansSame
 unfolding admits

@@ -1,33 +1,39 @@
 -- Readings that did not fail, and parts of a fixed size.
-use Rattle.std.proofs.Common.{◌≡◌, ℕ, ◌+◌, ◌*◌, ◌<◌, ◌≤◌, Bool, true, false, ◌&&◌, ◌||◌, eqb, leb, List, [], ◌∷◌, ◌++◌, length, get_or, take, drop, is_some, Some, None, Ok, Err, Option, sym, refl, ap, ◌∙◌, add-zero, arith, rules}
+use Rattle.std.proofs.Common.{◌≡◌, ℕ, ◌+◌, ◌*◌, ◌<◌, ◌≤◌, Bool, true, false, ◌&&◌, ◌||◌, eqb, leb, List, [], ◌∷◌, ◌++◌, length, get_or, take, drop, is_some, Some, None, Ok, Option, sym, refl, ap, ◌∙◌, add-zero, arith, rules}
 use lib.Pointwise.{pointwise}
 use Rattle.std.specs.Option.{option_eq}
 use borrow.Rule.Slice.PartMut.{post_of}
-use Rattle.std.proofs.lemmas.List.{get_or-take, get_or-drop, take-take}
+use Rattle.std.proofs.lemmas.List.{get_or-take, get_or-drop}
 use Rattle.std.proofs.lemmas.Slice.Eq.{compares_Decides}
-use Rattle.std.proofs.lemmas.Bool.{eqb-true, eq-eqb, ne_eqb}
+use Rattle.std.proofs.lemmas.Bool.{eqb-true, eq-eqb}
 use Rattle.source.specs.Bytes.{part, val, same_bytes}
-use Rattle.source.specs.declared.refusals.Reason.TheVariants.{SourceEnd}
-use Rattle.source.specs.declared.refusals.Refusal.{Refusal}
 use Rattle.scan.specs.Scans.{asked}
 use Rattle.scan.specs.Texts.{also}
 use Rattle.scan.proofs.Numbers.{length_part, val_two, val_four}
-use Rattle.scan.proofs.Parts.{asked_within, asked_past, asked_got, asked_as}
+use Rattle.scan.proofs.Parts.{asked_within}
 use Rattle.contents.specs.Calendar.{word}
-use Rattle.contents.specs.Contents.{code_page_in, right_rendering, version_data, is_version}
+use Rattle.contents.specs.Contents.{right_rendering, version_data, is_version}
 use Rattle.contents.specs.Options.{where_true, then, exactly, number}
+
+pub some_is : {A : Type 0} (o : Option A) → is_some o ≡ true → (a : A) × (o ≡ Some a)
+some_is (Some a) e = (a, refl)
+some_is None e = absurd cc
+
+pub none_unless : {A : Type 0} (o : Option A) → ((a : A) → o ≡ Some a → ⊥) → o ≡ None
+none_unless (Some a) h = absurd (h a refl)
+none_unless None h = refl
 
 pub where_some : {A : Type 0} (b : Bool) (a c : A) → where_true b a ≡ Some c → (b ≡ true) × (a ≡ c)
 where_some true a c e = (refl, cc)
-where_some false a c e = absurd (let z : ◌≡◌ {A = ℕ} 0 1 = cc in omega arith)
+where_some false a c e = absurd cc
 
 pub also_some : {A B : Type 0} (o : Option A) (f : A → B) (b : B) → also o f ≡ Some b → (a : A) × (o ≡ Some a) × (f a ≡ b)
 also_some (Some a) f b e = (a, refl, cc)
-also_some None f b e = absurd (let z : ◌≡◌ {A = ℕ} 0 1 = cc in omega arith)
+also_some None f b e = absurd cc
 
 pub then_some : {A B : Type 0} (o : Option A) (f : A → Option B) (b : B) → then o f ≡ Some b → (a : A) × (o ≡ Some a) × (f a ≡ Some b)
 then_some (Some a) f b e = (a, refl, e)
-then_some None f b e = absurd (let z : ◌≡◌ {A = ℕ} 0 1 = cc in omega arith)
+then_some None f b e = absurd cc
 
 pub exactly_some : (n : ℕ) (xs ys : List ℕ) → exactly n xs ≡ Some ys → (length xs ≡ n) × (xs ≡ ys)
 unfolding exactly
@@ -36,35 +42,6 @@ exactly_some n xs ys e = let (t, same) = where_some (eqb (length xs) n) xs ys e 
 pub exactly_all : (n : ℕ) (xs : List ℕ) → length xs ≡ n → exactly n xs ≡ Some xs
 unfolding exactly
 exactly_all n xs e = rw (eq-eqb (length xs) n e)
-
-pub exactly_none : (n : ℕ) (xs : List ℕ) → (length xs ≡ n → ⊥) → exactly n xs ≡ None
-unfolding exactly
-exactly_none n xs e = rw (ne_eqb (length xs) n e)
-
--- A part of another size, as bytes and as a number.
-module _ (xs : List ℕ) (place size n : ℕ) (l : place + size ≤ length xs) where
-  pub other_size : (size ≡ n → ⊥) → Ok None ≡ asked (exactly n) xs place size
-  other_size other =
-      let none = exactly_none n (part xs place size) (λ e. other (sym (length_part xs place size l) ∙ e)) in
-      ap Ok (sym none) ∙ sym (asked_within (exactly n) xs place size l)
-
-  pub other_number : (size ≡ n → ⊥) → Ok None ≡ asked (number n) xs place size
-  other_number other = asked_as (exactly n) (number n) xs place size (λ o. also o val) None (other_size other) (λ ys. refl)
-
-  pub number_got : (k : ℕ) → size ≡ n → Ok k ≡ asked val xs place n → Ok (Some k) ≡ asked (number n) xs place size
-  number_got k s e =
-      let v : k ≡ val (part xs place size) = (asked_got val xs place n k e).1 ∙ ap (λ m. val (part xs place m)) (sym s) in
-      let all = exactly_all n (part xs place size) (length_part xs place size l ∙ s) in
-      ap (λ m. Ok (Some m)) v ∙ ap (λ o. Ok (also o val)) (sym all) ∙ sym (asked_within (number n) xs place size l)
-
--- What was fetched into n bytes.
-pub exact_fetched : (xs bytes : List ℕ) (place size m n : ℕ) → place + size ≤ length xs → size ≡ n → m ≡ n → bytes ≡ take m (drop place xs)
-    → Ok (Some bytes) ≡ asked (exactly n) xs place size
-unfolding part
-exact_fetched xs bytes place size m n l s e b =
-    let same : bytes ≡ part xs place size = b ∙ ap (λ k. take k (drop place xs)) (e ∙ sym s) in
-    let all = exactly_all n (part xs place size) (length_part xs place size l ∙ s) in
-    ap (λ ys. Ok (Some ys)) same ∙ ap Ok (sym all) ∙ sym (asked_within (exactly n) xs place size l)
 
 -- Fewer bytes than four, and zeros behind them, as a number.
 abbrev zeros : List ℕ
@@ -98,81 +75,25 @@ unfolding part
 get_d_part xs p n i h = rw (get_or-take, get_or-drop)
 
 pub word_is : (xs : List ℕ) (k : ℕ) → 2 * k + 1 < length xs → get_or xs (2 * k) 0 + get_or xs (2 * k + 1) 0 * 256 ≡ word xs k
-word_is xs k h =
-    let l : length (part xs (2 * k) 2) ≡ 2 = length_part xs (2 * k) 2 (omega arith) in
-    let a = get_d_part xs (2 * k) 2 0 (omega arith) in
-    let b = get_d_part xs (2 * k) 2 1 (omega arith) in
-    omega (arith, val_two (part xs (2 * k) 2) l, rw add-zero at a, b)
-
-part_front : (xs : List ℕ) (place n m : ℕ) → n ≤ m → part (part xs place m) 0 n ≡ part xs place n
-unfolding part
-part_front xs place n m h = take-take n m (drop place xs) h
-
-pub page_got : (xs : List ℕ) (place size k : ℕ) → place + size ≤ length xs → size ≡ 8 → Ok k ≡ asked val xs place 4 → Ok (Some k) ≡ asked code_page_in xs place size
-page_got xs place size k l s e =
-    let v : k ≡ val (part (part xs place size) 0 4) = (asked_got val xs place 4 k e).1 ∙ ap val (sym (part_front xs place 4 size (omega arith))) in
-    let all = exactly_all 8 (part xs place size) (length_part xs place size l ∙ s) in
-    ap (λ m. Ok (Some m)) v ∙ ap (λ o. Ok (also o (λ ys. val (part ys 0 4)))) (sym all) ∙ sym (asked_within code_page_in xs place size l)
+word_is xs k h = grind (arith, val_two, length_part, get_d_part, add-zero)
 
 quad_is : (xs : List ℕ) (p : ℕ) → p + 4 ≤ length xs → get_or xs (p + 0) 0 + get_or xs (p + 1) 0 * 256 + get_or xs (p + 2) 0 * 65536 + get_or xs (p + 3) 0 * 16777216 ≡ val (part xs p 4)
-quad_is xs p h =
-    let l : length (part xs p 4) ≡ 4 = length_part xs p 4 h in
-    let a = get_d_part xs p 4 0 (omega arith) in
-    let b = get_d_part xs p 4 1 (omega arith) in
-    let c = get_d_part xs p 4 2 (omega arith) in
-    let d = get_d_part xs p 4 3 (omega arith) in
-    omega (arith, val_four (part xs p 4) l, a, b, c, d)
-
-pub some_where : {A : Type 0} (b : Bool) (a : A) → is_some (where_true b a) ≡ b
-some_where true a = refl
-some_where false a = refl
+quad_is xs p h = grind (arith, val_four, length_part, get_d_part)
 
 pub rendering_tests : (b : List ℕ) (k f : ℕ) → length b ≡ 14 → k ≡ get_or b 0 0 + get_or b 1 0 * 256
     → f ≡ get_or b 10 0 + get_or b 11 0 * 256 + get_or b 12 0 * 65536 + get_or b 13 0 * 16777216
     → ((eqb k 1 || eqb k 2) && leb f 1) ≡ right_rendering b
-rendering_tests b k f l e g =
-    let kind : k ≡ val (part b 0 2) = e ∙ word_is b 0 (omega arith) in
-    let flags : f ≡ val (part b 10 4) = g ∙ quad_is b 10 (omega arith) in
-    rw (kind, flags)
-
--- What is said of bytes that were fetched, and where they end too early.
-pub fetched_asked : {A : Type 0} (f : List ℕ → A) (xs bytes : List ℕ) (place size m : ℕ) → place + m ≤ length xs → m ≡ size → bytes ≡ take m (drop place xs)
-    → Ok (f bytes) ≡ asked f xs place size
-unfolding part
-fetched_asked f xs bytes place size m l s e =
-    ap (λ ys. Ok (f ys)) (e ∙ ap (λ k. take k (drop place xs)) s) ∙ sym (asked_within f xs place size (omega arith))
-
-pub fetched_lost : {A : Type 0} (f : List ℕ → A) (xs : List ℕ) (place size m : ℕ) (r : Refusal) → length xs < place + m → m ≡ size → r ≡ record { reason = SourceEnd; place = 0 }
-    → Err r ≡ asked f xs place size
-fetched_lost f xs place size m r l s e = ap Err e ∙ sym (asked_past f xs place size (omega arith))
+rendering_tests b k f l e g = rw (e ∙ word_is b 0 (omega arith), g ∙ quad_is b 10 (omega arith))
 
 -- Bytes of another number than the version's.
 pub same_length : (xs ys : List ℕ) → same_bytes xs ys ≡ true → length xs ≡ length ys
 same_length xs ys e = ap length ((compares_Decides same_bytes (search rules) xs ys).0 e)
 
-pointwise_is : (xs ys : List ℕ) → pointwise eqb xs ys ≡ same_bytes xs ys
-pointwise_is [] [] = refl
-pointwise_is [] (y ∷ ys) = refl
-pointwise_is (x ∷ xs) [] = refl
-pointwise_is (x ∷ xs) (y ∷ ys) = ap (λ b. eqb x y && b) (pointwise_is xs ys)
-
 pub version_read : (ys : List ℕ) → option_eq (pointwise eqb) (exactly 4 ys) (Some version_data) ≡ is_version ys
 unfolding exactly
-version_read ys = go (eqb (length ys) 4) refl
-  where
-    go : (b : Bool) → eqb (length ys) 4 ≡ b → option_eq (pointwise eqb) (where_true b ys) (Some version_data) ≡ is_version ys
-    go true e = pointwise_is ys version_data
-    go false e = sym (by_test (is_version ys) refl)
-      where
-        by_test : (b : Bool) → is_version ys ≡ b → b ≡ false
-        by_test true t = absurd (let z : ◌≡◌ {A = Bool} false true = sym e ∙ rw (same_length ys version_data t) in let o : ◌≡◌ {A = ℕ} 0 1 = cc in omega arith)
-        by_test false t = refl
-
-pub other_version : (xs : List ℕ) (place size : ℕ) → place + size ≤ length xs → (size ≡ 4 → ⊥) → Ok false ≡ asked is_version xs place size
-other_version xs place size l other =
-    let no : is_version (part xs place size) ≡ false = by_test (is_version (part xs place size)) refl in
-    ap Ok (sym no) ∙ sym (asked_within is_version xs place size l)
-  where
-    by_test : (b : Bool) → is_version (part xs place size) ≡ b → b ≡ false
-    by_test true e = absurd (other (sym (length_part xs place size l) ∙ same_length (part xs place size) version_data e))
-    by_test false e = refl
+version_read [] = refl
+version_read (a ∷ []) = grind arith
+version_read (a ∷ (b ∷ [])) = grind arith
+version_read (a ∷ (b ∷ (c ∷ []))) = grind arith
+version_read (a ∷ (b ∷ (c ∷ (d ∷ [])))) = refl
+version_read (a ∷ (b ∷ (c ∷ (d ∷ (e ∷ ys))))) = grind arith

@@ -1,23 +1,11 @@
 -- What a table of pairs spells, pair by pair; and texts that begin with a prefix.
-use Rattle.std.proofs.Common.{◌≡◌, ℕ, zero, suc, ◌+◌, ◌<◌, ◌≤◌, Bool, true, false, ◌⊎◌, List, [], ◌∷◌, ◌++◌, map, length, get_or, drop, Some, None, sym, refl, ap, ◌∙◌, inl, inr, arith, rules}
-use Rattle.std.proofs.lemmas.List.{drop_more, drop_all}
+use Rattle.std.proofs.Common.{◌≡◌, ℕ, zero, suc, ◌<◌, false, ◌⊎◌, List, [], ◌∷◌, ◌++◌, map, length, get_or, sym, refl, ap, ◌∙◌, arith, rules}
 use Rattle.std.proofs.lemmas.Slice.Eq.{compares_Decides}
-use Rattle.std.proofs.lemmas.Bool.{eq-eqb}
+use Rattle.std.proofs.lemmas.Bool.{eq-eqb, false_from_ne_true}
 use Rattle.source.specs.Bytes.{same_bytes}
-use Rattle.contents.specs.Classes.{class_text, means_pair, pair_from}
+use Rattle.contents.specs.Classes.{class_text}
 use Rattle.contents.specs.Spelling.{spelled}
 use Rattle.contents.specs.declared.classes.Pair.{Pair}
-
-module _ (table : List Pair) (t : List ℕ) (k : ℕ) (d : Pair) (so_far : pair_from t (map spelled (drop k table)) (k + 1) ≡ pair_from t (map spelled table) 1) (h : k < length table) where
-  pub spelled_more : means_pair t (spelled (get_or table k d)) ≡ false → pair_from t (map spelled (drop (k + 1) table)) (k + 1 + 1) ≡ pair_from t (map spelled table) 1
-  spelled_more n = let e = ap (λ l. pair_from t (map spelled l) (k + 1)) (drop_more table k d h) ∙ rw n in sym e ∙ so_far
-
-  pub spelled_here : means_pair t (spelled (get_or table k d)) ≡ true → Some (k + 1) ≡ pair_from t (map spelled table) 1
-  spelled_here n = let e = ap (λ l. pair_from t (map spelled l) (k + 1)) (drop_more table k d h) ∙ rw n in sym e ∙ so_far
-
-pub spelled_none : (table : List Pair) (t : List ℕ) (k : ℕ) → pair_from t (map spelled (drop k table)) (k + 1) ≡ pair_from t (map spelled table) 1 → length table ≤ k
-    → None ≡ pair_from t (map spelled table) 1
-spelled_none table t k so_far h = rw (drop_all k table h) at so_far
 
 same_front : (p a b : List ℕ) → same_bytes (p ++ a) (p ++ b) ≡ same_bytes a b
 same_front [] a b = refl
@@ -27,11 +15,7 @@ pub prefixed : (p t rest a : List ℕ) → t ≡ p ++ rest → same_bytes rest a
 prefixed p t rest a e = sym (ap (λ l. same_bytes l (p ++ a)) e ∙ same_front p rest a)
 
 pub unprefixed : (p t a : List ℕ) → ((rest : List ℕ) → t ≡ p ++ rest → ⊥) → false ≡ same_bytes t (p ++ a)
-unprefixed p t a other = by_test (same_bytes t (p ++ a)) refl
-  where
-    by_test : (b : Bool) → same_bytes t (p ++ a) ≡ b → false ≡ b
-    by_test true e = absurd (other a ((compares_Decides same_bytes (search rules) t (p ++ a)).0 e))
-    by_test false e = refl
+unprefixed p t a other = sym (false_from_ne_true _ (λ e. other a ((compares_Decides same_bytes (search rules) t (p ++ a)).0 e)))
 
 -- The attribute value of a pair, by its number.
 pub text_here : (table : List Pair) (k : ℕ) (d : Pair) → k < length table → (get_or table k d).attribute.now ≡ class_text (map spelled table) (suc k)
@@ -42,7 +26,5 @@ text_here (p ∷ ps) (suc k) d h = text_here ps k d (omega arith)
 pub text_none : (table : List Pair) (k : ℕ) → (k ≡ 0) ⊎ ((k ≡ 0 → ⊥) × (length table < k)) → class_text (map spelled table) k ≡ []
 text_none [] k h = refl
 text_none (p ∷ ps) zero h = refl
-text_none (p ∷ ps) (suc zero) (inl e) = absurd (omega arith)
-text_none (p ∷ ps) (suc zero) (inr e) = absurd (omega (arith, e.1))
-text_none (p ∷ ps) (suc (suc k)) (inl e) = absurd (omega arith)
-text_none (p ∷ ps) (suc (suc k)) (inr e) = text_none ps (suc k) (inr (λ f. omega arith, omega (arith, e.1)))
+text_none (p ∷ ps) (suc zero) h = absurd (grind arith)
+text_none (p ∷ ps) (suc (suc k)) h = text_none ps (suc k) (grind arith)

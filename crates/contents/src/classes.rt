@@ -84,6 +84,7 @@ fn number_in(table: &[Pair], text: &[u8]) -> Option<usize>
 }
 
 // The pair that a text means, 1 to 8, if it means one.
+#[tactic(auto, unfolding(crate::specs::Classes::pair_number))]
 pub fn class_of(text: &[u8]) -> Option<usize>
     ensures { result ≡ pair_number text.now }
 {
@@ -91,6 +92,7 @@ pub fn class_of(text: &[u8]) -> Option<usize>
 }
 
 // The attribute value of pair k of a table, from 1; nothing where there is no such pair.
+#[tactic(auto, using(crate::proofs::Spellings::text_here, crate::proofs::Spellings::text_none))]
 fn text_in(table: &[Pair], k: usize) -> &'static [u8]
     ensures { result.now ≡ class_text (map spelled table.now) k }
 {
@@ -111,6 +113,7 @@ pub fn class_text(k: usize) -> &'static [u8]
 const LONGEST: usize = 51;
 
 // The pair that data mean, 1 to 8, if they mean one.
+#[tactic(auto, using(scan::proofs::Numbers::length_part, crate::proofs::ClassTexts::long_data, crate::proofs::ClassTexts::text_size), unfolding(scan::specs::Scans::asked))]
 pub fn class_at<S: Source>(
     source: &mut S,
     place: usize,

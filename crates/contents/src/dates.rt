@@ -54,6 +54,7 @@ fn length_of(year: u16, month: u16) -> u16
 }
 
 // The days in the months of a year before a month.
+#[tactic(auto, unfolding(crate::specs::Calendar::days_before))]
 fn days_ahead(year: u16, month: u16) -> u32
     ensures value { result ≡ days_before year (month - 1) }
     ensures bound { result ≤ 31 * 65536 }
@@ -67,6 +68,7 @@ fn days_ahead(year: u16, month: u16) -> u32
 
 impl Date {
     // 1 for Monday to 6, and 0 for Sunday.
+    #[tactic(auto, unfolding(crate::specs::Calendar::weekday))]
     pub fn weekday(self) -> u16
         ensures { result ≡ weekday self }
     {
@@ -92,6 +94,7 @@ impl Date {
     }
 }
 
+#[tactic(auto, using(crate::proofs::Parts::word_is))]
 fn word_of(bytes: &[u8; 14], k: usize) -> u16
     requires { k < 7 }
     ensures { result ≡ word bytes.now k }
@@ -116,6 +119,7 @@ fn right_date(bytes: Option<[u8; 14]>) -> Option<Date>
 }
 
 // The date that data mean, if they mean one.
+#[tactic(auto, unfolding(scan::specs::Scans::asked))]
 pub fn date_at<S: Source>(
     source: &mut S,
     place: usize,

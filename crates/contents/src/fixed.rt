@@ -8,6 +8,7 @@ ghost use Rattle.contents.specs.Options.{exactly, number};
 use source::{Reason, Refusal, Source};
 
 // Refuses a part that goes past the end.
+#[tactic(auto, unfolding(scan::specs::Scans::asked))]
 pub(crate) fn reach<S: Source>(source: &S, place: usize, size: usize) -> Result<(), Refusal>
     ensures { result ≡ asked (λ _. tt) (meaning (S.Source.content source.now)) place size }
 {
@@ -22,6 +23,7 @@ pub(crate) fn reach<S: Source>(source: &S, place: usize, size: usize) -> Result<
 }
 
 // Answers the same of every part that is there.
+#[tactic(auto, unfolding(scan::specs::Scans::asked))]
 pub(crate) fn of_any<S: Source>(
     source: &S,
     place: usize,
@@ -42,6 +44,7 @@ pub(crate) fn present<T: Drop>(read: Result<Option<T>, Refusal>) -> Result<bool,
 }
 
 // The bytes of a part, where there are N.
+#[tactic(auto, using(scan::proofs::Numbers::length_part), unfolding(crate::specs::Options::exactly, scan::specs::Scans::asked, source::specs::Bytes::part))]
 pub(crate) fn exactly<S: Source, const N: usize>(
     source: &mut S,
     place: usize,
@@ -60,6 +63,7 @@ pub(crate) fn exactly<S: Source, const N: usize>(
 }
 
 // The number that a part of `width` bytes means.
+#[tactic(auto, using(scan::proofs::Numbers::length_part), unfolding(crate::specs::Options::exactly, scan::specs::Scans::asked, source::specs::Bytes::part))]
 pub(crate) fn number<S: Source>(
     source: &mut S,
     width: usize,

@@ -30,6 +30,7 @@ pub use statuses::{Status, status_at};
 pub use writing::write_normal;
 
 // Whether the rule admits the `size` bytes from `place` on. A match on the rules, which are closed: none can be missed.
+#[tactic(auto, unfolding(crate::specs::Contents::admits, crate::specs::Contents::means, scan::specs::Scans::asked))]
 pub fn admits<S: Source>(
     source: &mut S,
     rule: Rule,
@@ -62,6 +63,7 @@ pub fn normal_data_mean_the_same() -> u8
 }
 
 // Two admitted data mean the same exactly where their normal data are equal.
+#[tactic(auto, using(crate::proofs::Normal::decides))]
 pub fn normal_data_decide() -> u8
     ensures { NormalDecides }
 {
@@ -69,6 +71,7 @@ pub fn normal_data_decide() -> u8
 }
 
 // Dates, weekdays, flags and classes at examples.
+#[tactic(auto, unfolding(source::specs::Bytes::part, source::specs::Bytes::val, source::specs::Bytes::le, scan::specs::Texts::before_zero, crate::specs::Options::exactly, crate::specs::Calendar::days_before, crate::specs::Calendar::weekday, crate::specs::Classes::pair_number, crate::specs::Contents::means, crate::specs::Contents::admits))]
 pub fn worked_examples() -> u8
     ensures { Worked }
 {

@@ -22,6 +22,7 @@ fn rank(number: Option<u32>) -> Option<u16>
 }
 
 // The importance that the data of a priority mean: 0, 1 or 2.
+#[tactic(auto, unfolding(scan::specs::Scans::asked))]
 pub fn importance_at<S: Source>(
     source: &mut S,
     place: usize,
@@ -41,6 +42,7 @@ fn is_nonzero(number: Option<u32>) -> Option<bool>
 }
 
 // Whether data mean yes, if they mean yes or no.
+#[tactic(auto, unfolding(scan::specs::Scans::asked))]
 pub fn truth_at<S: Source>(
     source: &mut S,
     place: usize,
@@ -54,6 +56,7 @@ pub fn truth_at<S: Source>(
 }
 
 // The primary number of a code page's data, if they have one.
+#[tactic(auto, using(scan::proofs::Numbers::length_part), unfolding(crate::specs::Options::exactly, scan::specs::Scans::asked, source::specs::Bytes::part))]
 pub fn code_page_at<S: Source>(
     source: &mut S,
     place: usize,

@@ -14,6 +14,7 @@ fn are_right(kind: u16, flags: u32) -> bool
     (kind == 1 || kind == 2) && flags <= 1
 }
 
+#[tactic(auto, using(crate::proofs::Parts::rendering_tests))]
 fn has_right_parts(bytes: &[u8; 14]) -> bool
     ensures { result ≡ right_rendering bytes.now }
 {
@@ -32,6 +33,7 @@ fn is_right(bytes: Option<[u8; 14]>) -> bool
 }
 
 // Whether data are a rendering: of type 1 or 2, with flags of 0 or 1.
+#[tactic(auto, unfolding(scan::specs::Scans::asked))]
 pub(crate) fn is_rendering<S: Source>(
     source: &mut S,
     place: usize,
@@ -45,6 +47,7 @@ pub(crate) fn is_rendering<S: Source>(
 }
 
 // Whether data are the one version, 00 00 01 00.
+#[tactic(auto, using(crate::proofs::Parts::version_read), unfolding(scan::specs::Scans::asked))]
 pub(crate) fn is_version<S: Source>(
     source: &mut S,
     place: usize,

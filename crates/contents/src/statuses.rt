@@ -63,6 +63,7 @@ fn status_in(bits: Option<u32>) -> Option<Status>
 }
 
 // The status that data mean, if they mean one.
+#[tactic(auto, unfolding(scan::specs::Scans::asked))]
 pub fn status_at<S: Source>(
     source: &mut S,
     place: usize,

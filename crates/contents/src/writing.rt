@@ -32,18 +32,21 @@ fn pen_date(pen: &mut Pen<'_>, day: Date)
     pen.put_le(day.weekday());
 }
 
+#[tactic(auto, unfolding(crate::specs::Contents::normal))]
 fn pen_status(pen: &mut Pen<'_>, state: Status)
     ensures { Wrote pen.old (normal (status state)) pen.new }
 {
     pen.put_le(u32::from(state.bits()));
 }
 
+#[tactic(auto, unfolding(crate::specs::Contents::normal))]
 fn pen_truth(pen: &mut Pen<'_>, answer: bool)
     ensures { Wrote pen.old (normal (truth answer)) pen.new }
 {
     pen.put_le(u16::from(answer));
 }
 
+#[tactic(auto, unfolding(crate::specs::Contents::normal))]
 fn pen_code_page(pen: &mut Pen<'_>, primary: u32)
     ensures { Wrote pen.old (normal (code_page primary)) pen.new }
 {
@@ -51,6 +54,7 @@ fn pen_code_page(pen: &mut Pen<'_>, primary: u32)
     pen.put_le(0u32);
 }
 
+#[tactic(auto, unfolding(crate::specs::Contents::normal))]
 fn pen_class(pen: &mut Pen<'_>, k: usize)
     ensures { Wrote pen.old (normal (class k)) pen.new }
 {
@@ -70,6 +74,7 @@ fn write_same<S: Source>(source: &mut S, place: usize, size: usize, pen: &mut Pe
 }
 
 // Writes the pair's attribute value for any of its spellings, and another text as it is.
+#[tactic(auto, unfolding(scan::specs::Scans::asked, crate::specs::Contents::admits, crate::specs::Contents::means))]
 fn write_class<S: Source>(source: &mut S, place: usize, size: usize, pen: &mut Pen<'_>)
     ensures same { S.Source.content source.new ≡ S.Source.content source.old }
     ensures value { Written rules.Class (meaning (S.Source.content source.old)) place size pen.old pen.new }
@@ -118,6 +123,7 @@ fn pen_capitals<S: Source>(source: &mut S, place: usize, size: usize, pen: &mut 
 }
 
 // Writes the normal data of the `size` bytes from `place` on, where the rule admits them.
+#[tactic(auto, unfolding(scan::specs::Scans::asked, crate::specs::Contents::admits, crate::specs::Contents::means))]
 pub fn write_normal<S: Source>(
     source: &mut S,
     rule: Rule,

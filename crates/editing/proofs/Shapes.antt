@@ -11,7 +11,7 @@ use Rattle.attribute.specs.Table.{attribute_of, has_id, message_attributes, atta
 use Rattle.attribute.specs.declared.Attribute.{Attribute}
 use Rattle.frame.specs.Stages.{attachment_limit}
 use Rattle.contents.specs.Contents.{Contents, means, normal}
-use Rattle.contents.proofs.LittleEndian.{length_le}
+use Rattle.scan.proofs.Numbers.{length_le}
 use Rattle.property.specs.Lists.{Property, row_limit}
 use Rattle.property.specs.Writing.{write_list, write_table}
 use Rattle.stream.specs.Reading.{version, primary, contents, list, table, Entry}

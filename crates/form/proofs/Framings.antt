@@ -5,8 +5,7 @@ use Rattle.std.proofs.lemmas.List.{places, same_lists, length-take, length-drop,
 use Rattle.std.proofs.lemmas.List.Sums.{sum_by_push}
 use Rattle.source.specs.Bytes.{part, le}
 use Rattle.scan.specs.Scans.{checksum}
-use Rattle.scan.proofs.Numbers.{length_part}
-use Rattle.contents.proofs.LittleEndian.{length_le}
+use Rattle.scan.proofs.Numbers.{length_part, length_le}
 use Rattle.pen.specs.declared.Pen.{Pen}
 use Rattle.pen.specs.Pen.{Told, Wrote}
 use Rattle.form.specs.Framing.{placed, framed, Begins, Opened, Closable, Sealed, Closed}

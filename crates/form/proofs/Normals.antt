@@ -7,7 +7,7 @@ use Rattle.scan.specs.Scans.{checksum}
 use Rattle.attribute.specs.Table.{attribute_of}
 use Rattle.frame.specs.declared.Frame.{Frame}
 use Rattle.frame.specs.declared.stages.Stage.{Stage}
-use Rattle.contents.proofs.LittleEndian.{length_le, val_le}
+use Rattle.scan.proofs.Numbers.{length_le, val_le}
 use Rattle.stream.specs.Writing.{entry_data, level_in, write_entry}
 use Rattle.form.specs.Targets.{remaining, row_entry, frame_row, AsWritten, NormalRow}
 use Rattle.form.proofs.Walks.{Stepped}

@@ -12,7 +12,7 @@ use Rattle.attribute.specs.declared.Rule.TheVariants as rule
 use Rattle.frame.specs.Stages.{Role, of_message, begins_attachment, of_attachment, attachment_limit}
 use Rattle.contents.specs.Contents.{Contents, means, primary_number}
 use Rattle.contents.proofs.Normal.{normal_means}
-use Rattle.contents.proofs.LittleEndian.{length_le}
+use Rattle.scan.proofs.Numbers.{length_le}
 use Rattle.property.specs.Lists.{Property, row_limit, indexed}
 use Rattle.property.specs.Writing.{write_list, write_table}
 use Rattle.stream.specs.Reading.{primary, contents, list, table, Nature, plain, page, rows, properties, nature}

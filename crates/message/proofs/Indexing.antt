@@ -5,7 +5,7 @@ use Rattle.std.proofs.lemmas.List.{append_assoc, append-nil, length-append}
 use Rattle.std.proofs.ByRecursion.{All-push}
 use Rattle.std.proofs.lemmas.Bool.{or_parts, or_from, cases_Bool, both_ways}
 use Rattle.source.specs.Bytes.{le}
-use Rattle.contents.proofs.LittleEndian.{length_le}
+use Rattle.scan.proofs.Numbers.{length_le}
 use Rattle.index.specs.Keys.{Key, tag, numbered, named, same_key}
 use Rattle.index.specs.Rows.{has, added}
 use Rattle.index.specs.Laws.{Apart}

@@ -12,7 +12,7 @@ use Rattle.frame.specs.Stages.{Role, of_message, begins_attachment, of_attachmen
 use Rattle.frame.specs.declared.stages.Stage.{Stage}
 use Rattle.frame.specs.declared.stages.Stage.TheVariants as stage
 use Rattle.contents.specs.Contents.{Contents, means, normal, code_page}
-use Rattle.contents.proofs.LittleEndian.{length_le, val_le}
+use Rattle.scan.proofs.Numbers.{length_le, val_le}
 use Rattle.property.specs.Lists.{Property, row_limit}
 use Rattle.property.specs.Writing.{write_list, write_table}
 use Rattle.stream.specs.Reading.{Meant, version, primary, contents, list, table, Entry, plain, nature}

@@ -4,7 +4,8 @@ use Rattle.std.specs.List.{flat_map, AllByRecursion}
 use Rattle.std.proofs.lemmas.List.{length-append, length-replicate}
 use Rattle.std.proofs.ByRecursion.{All-append}
 use Rattle.source.specs.Bytes.{Octets, le, val}
-use Rattle.contents.proofs.LittleEndian.{length_le, val_le, val_lt}
+use Rattle.scan.proofs.Numbers.{length_le, val_le}
+use Rattle.contents.proofs.LittleEndian.{val_lt}
 use Rattle.index.specs.Keys.{Key, tag, numbered, named}
 use Rattle.property.specs.declared.kinds.Kind.{Kind}
 use Rattle.property.specs.declared.kinds.Kind.TheVariants.{Fixed, YesNo, String8, String16, Binary, Object}
