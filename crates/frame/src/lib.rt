@@ -61,7 +61,7 @@ struct Judged {
     stage: Stage,
 }
 
-#[tactic(auto, using(crate::proofs::Checks::header_short, crate::proofs::Checks::header_got, crate::proofs::Checks::header_other))]
+#[tactic(auto, unfolding(crate::specs::Frames::header, source::specs::Bytes::part, source::specs::Bytes::val))]
 // The two key bytes of the header that a stream begins with.
 pub fn header<S: Source>(source: &mut S) -> Result<u16, Refusal>
     ensures same { S.Source.content source.new ≡ S.Source.content source.old }
@@ -129,7 +129,7 @@ fn head_judged(head: Head, place: usize, stage: Stage) -> Result<Judged, Refusal
     Ok(Judged { attribute, stage })
 }
 
-#[tactic(auto, using(crate::proofs::Checks::other_class), unfolding(crate::specs::Frames::sum_judged, scan::specs::Scans::asked))]
+#[tactic(auto, unfolding(crate::specs::Frames::sum_judged, scan::specs::Scans::asked))]
 // The checksum behind the data of the frame at `place`, which have `size` bytes; that of a class is not compared.
 fn sum_judged<S: Source>(
     source: &mut S,

@@ -1,17 +1,17 @@
 -- What judging a frame's data gives, by its rule; and a stream judged frame by frame.
 use Rattle.std.proofs.Common.{◌≡◌, ℕ, zero, suc, ◌+◌, ◌<◌, ◌≤◌, cond, List, ◌∷◌, length, is_some, Some, None, Ok, Err, Option, sym, refl, ap, ◌∙◌, arith}
+use Rattle.std.proofs.lemmas.Bool.{lt-leb, ne_eqb}
 use Rattle.source.specs.Bytes.{part}
-use Rattle.source.specs.Outcome.{Outcome, ◌>>=◌, given, over, refused}
+use Rattle.source.specs.Outcome.{Outcome, ◌>>=◌, ◌>>◌, given, over, refused}
 use Rattle.source.specs.declared.refusals.Reason.TheVariants.{NotAdmitted, StreamEnd}
 use Rattle.source.specs.declared.refusals.Refusal.{Refusal}
 use Rattle.source.proofs.Outcomes.{err_not_ok, over_over}
 use Rattle.attribute.specs.declared.Rule.{Rule}
 use Rattle.attribute.specs.declared.Rule.TheVariants as rule
-use Rattle.frame.specs.Frames.{header, next_frame}
+use Rattle.frame.specs.Frames.{header, head_at, frame_at, next_frame}
 use Rattle.frame.specs.declared.Frame.{Frame}
 use Rattle.frame.specs.declared.stages.Stage.{Stage}
 use Rattle.frame.specs.declared.stages.Stage.TheVariants as stage
-use Rattle.frame.proofs.Checks.{head_short, frame_short, frames_go_on}
 use Rattle.frame.proofs.Standing.{next_stands}
 use Rattle.contents.specs.Contents.{Contents, means, admits}
 use Rattle.property.specs.Fields.{data_end}
@@ -99,7 +99,8 @@ module _ (xs : List ℕ) where
   bind_same (Err r) j k e = refl
 
   past_end : (p : ℕ) (s : Stage) → length xs < p → next_frame xs p s ≡ refused StreamEnd p
-  past_end p s h = sym (ap (over Some) (frame_short xs p s _ (head_short xs p (omega arith))) ∙ frames_go_on xs p s (λ e m. omega arith))
+  unfolding next_frame frame_at head_at ◌>>=◌ ◌>>◌
+  past_end p s h = rw (ne_eqb p (length xs) (λ e. omega arith), lt-leb (p + 9) (length xs) (omega arith))
 
   past : (b : ℕ) (p : ℕ) (s : Stage) → length xs < p → entries_at b xs p s ≡ refused StreamEnd p
   unfolding entries_at ◌>>=◌
