@@ -1,20 +1,10 @@
--- What is found in a table of attributes, and the table's rules from tests over the whole of it.
+-- The rules of a table of attributes, from tests over the whole of it.
 use Rattle.std.proofs.Common.{◌≡◌, ℕ, zero, suc, ◌+◌, ◌<◌, ◌≤◌, Bool, true, false, cond, ◌||◌, eqb, ◌⊎◌, List, [], ◌∷◌, length, get_or, drop, Some, None, sym, refl, ap, ◌∙◌, arith}
 use Rattle.std.proofs.lemmas.List.{drop_more, drop_all}
 use Rattle.std.proofs.lemmas.Bool.{eq-eqb, ne_eqb, ltb-true, and_parts, or_parts, both_ways}
 use Rattle.std.proofs.lemmas.Bool.Decides.{nat_tests}
 use Rattle.attribute.specs.declared.Attribute.{Attribute}
 use Rattle.attribute.specs.Table.{find, has_id, ids_apart, ids_above, levels_right, attributes, attribute_of, message_attributes, attachment_attributes, Sound}
-
-module _ (table : List Attribute) (id k : ℕ) (d : Attribute) (so_far : find (drop k table) id ≡ find table id) where
-  pub find_more : k < length table → ((get_or table k d).id ≡ id → ⊥) → find (drop (k + 1) table) id ≡ find table id
-  find_more h n = let e = ap (λ l. find l id) (drop_more table k d h) ∙ rw (ne_eqb (get_or table k d).id id n) in sym e ∙ so_far
-
-  pub find_here : k < length table → (get_or table k d).id ≡ id → Some (get_or table k d) ≡ find table id
-  find_here h n = let e = ap (λ l. find l id) (drop_more table k d h) ∙ rw (eq-eqb (get_or table k d).id id n) in sym e ∙ so_far
-
-  pub find_none : length table ≤ k → None ≡ find table id
-  find_none h = (rw (drop_all k table h) at so_far)
 
 module _ (d : Attribute) where
   has_get_d : (table : List Attribute) (k : ℕ) → k < length table → has_id (get_or table k d).id table ≡ false → ⊥

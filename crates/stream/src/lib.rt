@@ -13,7 +13,7 @@ use frame::{Cursor, Frame, HEAD_SIZE, header, next_frame};
 use property::{property_list, recipient_table};
 use source::{Reason, Refusal, Source};
 
-#[tactic(auto, using(crate::proofs::Judging::data_ends, crate::proofs::Judging::by_rule, crate::proofs::Judging::by_table, crate::proofs::Judging::by_list), unfolding(scan::specs::Scans::asked))]
+#[tactic(auto, using(crate::proofs::Judging::by_rule, crate::proofs::Judging::by_table, crate::proofs::Judging::by_list), unfolding(scan::specs::Scans::asked))]
 // Judges the data of a frame by its rule.
 fn judge_data<S: Source>(source: &mut S, frame: Frame) -> Result<(), Refusal>
     requires { frame.place + 9 + frame.size ≤ length (meaning (S.Source.content source.old)) }
