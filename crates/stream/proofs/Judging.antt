@@ -52,11 +52,6 @@ module _ (xs : List ℕ) (base n : ℕ) where
   unfolding meant_as
   by_list = over_over _ _ (property_list xs base (base + n))
 
-told_cons : (x : Entry) (o : Outcome (List Entry)) → told o ≡ told (o >>= (λ es. Ok (x ∷ es)))
-unfolding ◌>>=◌
-told_cons x (Ok es) = refl
-told_cons x (Err r) = refl
-
 -- Any fuel that outlasts the stream gives the same entries.
 module _ (xs : List ℕ) where
   same_from : (j k : Frame → Outcome (List Entry)) (o : Option Frame) → ((f : Frame) → o ≡ Some f → j f ≡ k f) → entries_from j xs o ≡ entries_from k xs o
