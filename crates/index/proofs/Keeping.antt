@@ -37,16 +37,11 @@ module _ {R : Type 0} (same : R → R → Bool) (itself : (x : R) → same x x �
 
   before_known : (came : List R) (r q : R) → has same came q ≡ true → (before same (came ++ r ∷ []) q ≡ before same came q) × (before same came q < length came)
   before_known [] r q h = absurd (both_ways false refl h)
-  before_known (x ∷ xs) r q h =
-      elim (cases_Bool (same x q)) [
-        | inl t ↦ rw t (refl, omega arith)
-        | inr f ↦ let k : has same xs q ≡ true = rw f at h in let (a, b) = before_known xs r q k in rw f (ap (λ n. 1 + n) a, omega arith)
-      ]
+  before_known (x ∷ xs) r q h = grind (arith, before_known xs r q)
 
   before_new : (came : List R) (r : R) → has same came r ≡ false → before same (came ++ r ∷ []) r ≡ length came
   before_new [] r h = rw (itself r)
-  before_new (x ∷ xs) r h =
-      let (a, b) = or_parts (same x r) (has same xs r) h in let e = before_new xs r b in rw (a, e) (omega arith)
+  before_new (x ∷ xs) r h = grind (arith, before_new xs r)
 
   found_none : (rows : List R) (q : R) → has same rows q ≡ false → found same rows q ≡ None
   found_none [] q h = refl
@@ -110,7 +105,7 @@ module _ {R : Type 0} (same : R → R → Bool) (itself : (x : R) → same x x �
       (has_push xs r x ∙ or_from _ _ a.0 (unturned r x b), apart_push xs r a.1 d)
     where
       unturned : (x y : R) → same y x ≡ false → same x y ≡ false
-      unturned x y e = elim (cases_Bool (same x y)) [ inl t ↦ absurd (both_ways _ e (turned x y t)) | inr f ↦ f ]
+      unturned x y e = grind (arith, turned x y)
 
   standing_push : (later : Bool) (came : List R) (r q : R)
       → standing same later (came ++ r ∷ []) q ≡ cond later (cond (same r q) (Some r) (standing same later came q)) (cond (has same came q) (standing same later came q) (cond (same r q) (Some r) None))
