@@ -1,23 +1,12 @@
 -- What stands before a frame's data, from its nine bytes.
-use Rattle.std.proofs.Common.{◌≡◌, ℕ, ◌+◌, ◌*◌, ◌<◌, ◌≤◌, Bool, true, false, ◌&&◌, eqb, List, [], ◌∷◌, length, get_or, take, drop, Some, None, Ok, Err, sym, refl, ap, ◌∙◌, arith}
+use Rattle.std.proofs.Common.{◌≡◌, ℕ, ◌+◌, ◌*◌, ◌<◌, ◌≤◌, List, length, get_or, Ok, ◌∙◌, arith}
 use Rattle.std.proofs.lemmas.List.{places}
-use Rattle.std.proofs.lemmas.Bool.{le-leb, lt-leb, lt-ltb, le-ltb, eq-eqb, ne_eqb, eqb-true}
-use Rattle.std.proofs.lemmas.Bool.Decides.{nat_tests}
-use Rattle.source.specs.Bytes.{part, val, same_bytes}
-use Rattle.source.specs.Outcome.{refused, over}
-use Rattle.source.specs.declared.refusals.Reason.TheVariants.{StreamEnd, Signature, Level, UnknownId, LengthSign, Checksum}
-use Rattle.source.specs.declared.refusals.Refusal.{Refusal}
-use Rattle.scan.specs.Scans.{checksum}
+use Rattle.std.proofs.lemmas.Bool.{le-leb, lt-leb}
+use Rattle.source.specs.Bytes.{part, val}
+use Rattle.source.specs.Outcome.{refused}
+use Rattle.source.specs.declared.refusals.Reason.TheVariants.{StreamEnd}
 use Rattle.scan.proofs.Numbers.{length_part, val_four}
-use Rattle.attribute.specs.Table.{attribute_of}
-use Rattle.attribute.specs.declared.Attribute.{Attribute}
-use Rattle.attribute.specs.declared.Rule.{Rule}
-use Rattle.attribute.specs.declared.Rule.TheVariants as rule
-use Rattle.frame.specs.declared.stages.Stage.{Stage}
-use Rattle.frame.specs.declared.Head.{Head}
-use Rattle.frame.specs.declared.Judged.{Judged}
-use Rattle.frame.specs.Stages.{role, next_stage, may_end}
-use Rattle.frame.specs.Frames.{signature, header, head_at, head_judged, is_class, sum_judged, frame_at, next_frame}
+use Rattle.frame.specs.Frames.{head_at}
 
 -- A number that stands at k in a part of n bytes.
 within_part : (xs : List ℕ) (p n k w j : ℕ) → k + w ≤ n → j < w → get_or (part xs p n) (k + j) 0 ≡ get_or (part xs (p + k) w) j 0

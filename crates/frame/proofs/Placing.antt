@@ -1,14 +1,13 @@
 -- A frame that was read is of an attribute of the table, and may stand at its stage.
-use Rattle.std.proofs.Common.{◌≡◌, ℕ, ◌+◌, Bool, true, false, cond, eqb, ltb, List, [], ◌∷◌, Some, None, Ok, Option, sym, refl, ap, ◌∙◌, arith}
+use Rattle.std.proofs.Common.{◌≡◌, ℕ, eqb, ltb, List, [], ◌∷◌, Some, None, Ok, Option, ap, ◌∙◌, arith}
 use Rattle.std.proofs.lemmas.Bool.Decides.{nat_tests}
 use Rattle.source.specs.Outcome.{Outcome, ◌>>=◌, ◌>>◌, need, given}
 use Rattle.source.specs.declared.refusals.Reason.TheVariants.{UnknownId, Level, LengthSign}
-use Rattle.source.proofs.Outcomes.{err_not_ok, ok_same, bind_got, then_got}
 use Rattle.frame.proofs.Standing.{frame_parts}
 use Rattle.attribute.specs.Table.{attributes, find, attribute_of}
 use Rattle.attribute.specs.declared.Attribute.{Attribute}
 use Rattle.frame.specs.Stages.{role, next_stage}
-use Rattle.frame.specs.Frames.{head_at, head_judged, sum_judged, frame_at}
+use Rattle.frame.specs.Frames.{head_judged, frame_at}
 use Rattle.frame.specs.declared.Frame.{Frame}
 use Rattle.frame.specs.declared.Head.{Head}
 use Rattle.frame.specs.declared.Judged.{Judged}

@@ -1,18 +1,14 @@
 -- What is known of a frame that was read.
-use Rattle.std.proofs.Common.{◌≡◌, ℕ, ◌+◌, ◌≤◌, Bool, true, false, cond, ◌&&◌, ◌||◌, eqb, leb, List, length, Some, None, Ok, Err, sym, refl, arith}
+use Rattle.std.proofs.Common.{◌≡◌, ℕ, ◌+◌, ◌≤◌, List, length, Some, Ok, refl, arith}
 use Rattle.std.proofs.lemmas.Bool.Decides.{nat_tests}
-use Rattle.source.specs.Bytes.{part, val}
-use Rattle.source.specs.Outcome.{Outcome, ◌>>=◌, ◌>>◌, need, over}
-use Rattle.source.specs.declared.refusals.Reason.TheVariants.{StreamEnd, Checksum}
-use Rattle.source.proofs.Outcomes.{err_not_ok, ok_same, need_got, bind_got, then_got}
-use Rattle.scan.specs.Scans.{checksum}
+use Rattle.source.specs.Outcome.{Outcome, ◌>>=◌}
+use Rattle.source.proofs.Outcomes.{ok_same, bind_got}
 use Rattle.attribute.specs.declared.Rule.{Rule}
 use Rattle.frame.specs.declared.stages.Stage.{Stage}
 use Rattle.frame.specs.declared.Frame.{Frame}
 use Rattle.frame.specs.declared.Head.{Head}
 use Rattle.frame.specs.declared.Judged.{Judged}
-use Rattle.frame.specs.Stages.{may_end}
-use Rattle.frame.specs.Frames.{head_at, head_judged, is_class, sum_judged, frame_at, next_frame}
+use Rattle.frame.specs.Frames.{head_at, head_judged, sum_judged, frame_at, next_frame}
 
 sum_within : (xs : List ℕ) (p n : ℕ) (r : Rule) (k : ℕ) → Ok k ≡ sum_judged xs p n r → p + 9 + n + 2 ≤ length xs
 unfolding sum_judged

@@ -1,10 +1,10 @@
 -- A text is closed at its end just if its one zero is its last.
-use Rattle.std.proofs.Common.{◌≡◌, ℕ, Bool, true, false, cond, not, ◌&&◌, eqb, List, [], ◌∷◌, is_some, Some, None, fold, Option, sym, refl, ◌∙◌}
+use Rattle.std.proofs.Common.{◌≡◌, ℕ, false, List, [], ◌∷◌, is_some, Some, None, fold, Option, refl}
 use Rattle.std.proofs.Common.{arith}
 use Rattle.std.proofs.lemmas.Bool.Decides.{nat_tests}
 use Rattle.scan.specs.declared.texts.Text.TheVariants as text
 use Rattle.scan.specs.declared.texts.Units.TheVariants as units
-use Rattle.scan.specs.Texts.{before_zero, nothing_more, also, is_text16}
+use Rattle.scan.specs.Texts.{before_zero, also, is_text16}
 use Rattle.scan.specs.Steps.{text_step, unit_step, text_closed, units_closed}
 
 text_broken : (xs : List ℕ) → text_closed (fold text_step text.Broken xs) ≡ false

@@ -55,7 +55,7 @@ impl<A: Source, B: Source> Source for Join<A, B> {
         (a + b).min(SOURCE_LIMIT)
     }
 
-    #[tactic(auto, using(crate::proofs::Spans::fetched_second, crate::proofs::Spans::fetched_first))]
+    #[tactic(auto, using(crate::proofs::Spans::fetched_second, crate::proofs::Spans::fetched_first, crate::proofs::Spans::fetched_both))]
     fn fetch(&mut self, place: usize, buffer: &mut [u8]) -> Result<(), Refusal> {
         let total = self.len();
         let a = self.first.len();

@@ -1,11 +1,11 @@
 -- What judging a frame's data gives, by its rule; and a stream judged frame by frame.
-use Rattle.std.proofs.Common.{◌≡◌, ℕ, zero, suc, ◌+◌, ◌<◌, ◌≤◌, cond, List, ◌∷◌, length, is_some, Some, None, Ok, Err, Option, sym, refl, ap, ◌∙◌, arith}
+use Rattle.std.proofs.Common.{◌≡◌, ℕ, zero, suc, ◌+◌, ◌<◌, cond, List, length, is_some, Some, None, Ok, Err, Option, sym, refl, ap, ◌∙◌, arith}
 use Rattle.std.proofs.lemmas.Bool.{lt-leb, ne_eqb}
 use Rattle.source.specs.Bytes.{part}
 use Rattle.source.specs.Outcome.{Outcome, ◌>>=◌, ◌>>◌, given, over, refused}
 use Rattle.source.specs.declared.refusals.Reason.TheVariants.{NotAdmitted, StreamEnd}
 use Rattle.source.specs.declared.refusals.Refusal.{Refusal}
-use Rattle.source.proofs.Outcomes.{err_not_ok, over_over}
+use Rattle.source.proofs.Outcomes.{over_over}
 use Rattle.attribute.specs.declared.Rule.{Rule}
 use Rattle.attribute.specs.declared.Rule.TheVariants as rule
 use Rattle.frame.specs.Frames.{header, head_at, frame_at, next_frame}
@@ -14,9 +14,8 @@ use Rattle.frame.specs.declared.stages.Stage.{Stage}
 use Rattle.frame.specs.declared.stages.Stage.TheVariants as stage
 use Rattle.frame.proofs.Standing.{next_stands}
 use Rattle.contents.specs.Contents.{Contents, means, admits}
-use Rattle.property.specs.Fields.{data_end}
 use Rattle.property.specs.Lists.{property_list, recipient_table}
-use Rattle.stream.specs.Reading.{Meant, nature, meant_as, meant_at, judged, next_judged, Entry, entries_from, entries_at, entries_of}
+use Rattle.stream.specs.Reading.{Meant, nature, meant_as, judged, next_judged, Entry, entries_from, entries_at, entries_of}
 
 -- Only whether.
 abbrev pub told : {A : Type 0} → Outcome A → Outcome (Unit {0})
