@@ -1,20 +1,9 @@
--- What is found in a table of attributes, and the table's rules from tests over the whole of it.
-use Rattle.std.proofs.Common.{◌≡◌, ℕ, zero, suc, ◌+◌, ◌<◌, ◌≤◌, Bool, true, false, cond, ◌||◌, eqb, ◌⊎◌, List, [], ◌∷◌, length, get_or, drop, Some, None, sym, refl, ap, ◌∙◌, arith}
-use Rattle.std.proofs.lemmas.List.{drop_more, drop_all}
-use Rattle.std.proofs.lemmas.Bool.{eq-eqb, ne_eqb, ltb-true, and_parts, or_parts, both_ways}
+-- The rules of a table of attributes, from tests over the whole of it.
+use Rattle.std.proofs.Common.{◌≡◌, ℕ, zero, suc, ◌<◌, true, false, ◌||◌, eqb, ◌⊎◌, List, [], ◌∷◌, length, get_or, Some, sym, refl, arith}
+use Rattle.std.proofs.lemmas.Bool.{eq-eqb, ltb-true, and_parts, or_parts, both_ways}
 use Rattle.std.proofs.lemmas.Bool.Decides.{nat_tests}
 use Rattle.attribute.specs.declared.Attribute.{Attribute}
 use Rattle.attribute.specs.Table.{find, has_id, ids_apart, ids_above, levels_right, attributes, attribute_of, message_attributes, attachment_attributes, Sound}
-
-module _ (table : List Attribute) (id k : ℕ) (d : Attribute) (so_far : find (drop k table) id ≡ find table id) where
-  pub find_more : k < length table → ((get_or table k d).id ≡ id → ⊥) → find (drop (k + 1) table) id ≡ find table id
-  find_more h n = let e = ap (λ l. find l id) (drop_more table k d h) ∙ rw (ne_eqb (get_or table k d).id id n) in sym e ∙ so_far
-
-  pub find_here : k < length table → (get_or table k d).id ≡ id → Some (get_or table k d) ≡ find table id
-  find_here h n = let e = ap (λ l. find l id) (drop_more table k d h) ∙ rw (eq-eqb (get_or table k d).id id n) in sym e ∙ so_far
-
-  pub find_none : length table ≤ k → None ≡ find table id
-  find_none h = (rw (drop_all k table h) at so_far)
 
 module _ (d : Attribute) where
   has_get_d : (table : List Attribute) (k : ℕ) → k < length table → has_id (get_or table k d).id table ≡ false → ⊥
@@ -22,14 +11,9 @@ module _ (d : Attribute) where
   has_get_d (a ∷ rest) zero h n = both_ways (eqb a.id a.id) (or_parts _ _ n).0 (eq-eqb a.id a.id refl)
   has_get_d (a ∷ rest) (suc k) h n = has_get_d rest k (omega arith) (or_parts _ _ n).1
 
-  -- the first of a table whose ids are apart has none of the others' ids, and those are apart
-  first_apart : (b c : Bool) → cond b false c ≡ true → (b ≡ false) × (c ≡ true)
-  first_apart true c e = absurd (both_ways false refl e)
-  first_apart false c e = (refl, e)
-
+  -- the first of a table whose ids are apart has none of the others' ids
   other_id : (a : Attribute) (rest : List Attribute) (k : ℕ) → ids_apart (a ∷ rest) ≡ true → k < length rest → a.id ≡ (get_or rest k d).id → ⊥
-  other_id a rest k s h e =
-      let n = (first_apart (has_id a.id rest) (ids_apart rest) s).0 in has_get_d rest k h (ap (λ i. has_id i rest) (sym e) ∙ n)
+  other_id a rest k s h e = grind (arith, has_get_d rest k)
 
   pub apart : (table : List Attribute) (i j : ℕ) → ids_apart table ≡ true → i < length table → j < length table
       → (get_or table i d).id ≡ (get_or table j d).id → i ≡ j
@@ -37,15 +21,12 @@ module _ (d : Attribute) where
   apart (a ∷ rest) zero zero s h k e = refl
   apart (a ∷ rest) zero (suc j) s h k e = absurd (other_id a rest j s (omega arith) e)
   apart (a ∷ rest) (suc i) zero s h k e = absurd (other_id a rest i s (omega arith) (sym e))
-  apart (a ∷ rest) (suc i) (suc j) s h k e =
-      ap suc (apart rest i j (first_apart (has_id a.id rest) (ids_apart rest) s).1 (omega arith) (omega arith) e)
+  apart (a ∷ rest) (suc i) (suc j) s h k e = grind (arith, apart rest i j)
 
   pub found : (table : List Attribute) (i : ℕ) → ids_apart table ≡ true → i < length table → find table (get_or table i d).id ≡ Some (get_or table i d)
   found [] i s h = absurd (omega arith)
   found (a ∷ rest) zero s h = rw (eq-eqb a.id a.id refl)
-  found (a ∷ rest) (suc i) s h =
-      rw (ne_eqb a.id (get_or rest i d).id (other_id a rest i s (omega arith)))
-      (found rest i (first_apart (has_id a.id rest) (ids_apart rest) s).1 (omega arith))
+  found (a ∷ rest) (suc i) s h = grind (arith, nat_tests, found rest i, other_id a rest i)
 
   level_one : (l : ℕ) → (eqb l 1 || eqb l 2) ≡ true → (l ≡ 1) ⊎ (l ≡ 2)
   level_one l e = grind (arith, nat_tests)
@@ -58,10 +39,7 @@ module _ (d : Attribute) where
   above : (low : ℕ) (table : List Attribute) (j : ℕ) → ids_above low table ≡ true → j < length table → low < (get_or table j d).id
   above low [] j s h = absurd (omega arith)
   above low (a ∷ rest) zero s h = ltb-true low a.id (and_parts _ _ s).0
-  above low (a ∷ rest) (suc j) s h =
-      let f = ltb-true low a.id (and_parts _ _ s).0 in
-      let g : a.id < (get_or rest j d).id = above a.id rest j (and_parts _ _ s).1 (omega arith) in
-      omega arith
+  above low (a ∷ rest) (suc j) s h = grind (arith, nat_tests, above a.id rest j)
 
   pub rises : (low : ℕ) (table : List Attribute) (i j : ℕ) → ids_above low table ≡ true → i < j → j < length table → (get_or table i d).id < (get_or table j d).id
   rises low [] i j s l h = absurd (omega arith)

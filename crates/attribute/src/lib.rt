@@ -47,6 +47,7 @@ fn find_in(table: &[Attribute], id: u32) -> Option<Attribute>
     table.iter().copied().find(|attribute| attribute.id == id)
 }
 
+#[tactic(auto, unfolding(crate::specs::Table::attribute_of))]
 // The attribute that has the id, if any has.
 pub fn attribute_of(id: u32) -> Option<Attribute>
     ensures { result ≡ attribute_of id }
@@ -54,6 +55,7 @@ pub fn attribute_of(id: u32) -> Option<Attribute>
     find_in(&ATTRIBUTES, id)
 }
 
+#[tactic(auto, using(crate::proofs::Tables::sound))]
 // Every attribute: those of a message by rising id, those of an attachment by rising id, those with a part of their own.
 pub fn all_attributes() -> &'static [Attribute]
     ensures value { result.now ≡ attributes }

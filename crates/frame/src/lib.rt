@@ -61,6 +61,7 @@ struct Judged {
     stage: Stage,
 }
 
+#[tactic(auto, unfolding(crate::specs::Frames::header, source::specs::Bytes::part, source::specs::Bytes::val))]
 // The two key bytes of the header that a stream begins with.
 pub fn header<S: Source>(source: &mut S) -> Result<u16, Refusal>
     ensures same { S.Source.content source.new ≡ S.Source.content source.old }
@@ -82,6 +83,7 @@ pub fn header<S: Source>(source: &mut S) -> Result<u16, Refusal>
     }
 }
 
+#[tactic(auto, using(crate::proofs::Checks::head_short, crate::proofs::Checks::head_got), unfolding(source::specs::Bytes::part))]
 fn head_at<S: Source>(source: &mut S, place: usize) -> Result<Head, Refusal>
     ensures same { S.Source.content source.new ≡ S.Source.content source.old }
     ensures reads { result ≡ head_at (meaning (S.Source.content source.old)) place }
@@ -101,6 +103,7 @@ fn head_at<S: Source>(source: &mut S, place: usize) -> Result<Head, Refusal>
     }
 }
 
+#[tactic(auto, unfolding(crate::specs::Frames::head_judged))]
 fn head_judged(head: Head, place: usize, stage: Stage) -> Result<Judged, Refusal>
     ensures { result ≡ head_judged head place stage }
 {
@@ -126,6 +129,7 @@ fn head_judged(head: Head, place: usize, stage: Stage) -> Result<Judged, Refusal
     Ok(Judged { attribute, stage })
 }
 
+#[tactic(auto, unfolding(crate::specs::Frames::sum_judged, scan::specs::Scans::asked))]
 // The checksum behind the data of the frame at `place`, which have `size` bytes; that of a class is not compared.
 fn sum_judged<S: Source>(
     source: &mut S,
@@ -158,6 +162,7 @@ fn sum_judged<S: Source>(
     Ok(stored)
 }
 
+#[tactic(auto, unfolding(crate::specs::Frames::frame_at))]
 // The frame at a place, read at a stage.
 pub fn frame_at<S: Source>(source: &mut S, at: Cursor) -> Result<Frame, Refusal>
     ensures same { S.Source.content source.new ≡ S.Source.content source.old }
@@ -180,6 +185,7 @@ pub fn frame_at<S: Source>(source: &mut S, at: Cursor) -> Result<Frame, Refusal>
     })
 }
 
+#[tactic(auto, unfolding(crate::specs::Frames::next_frame))]
 // The frame at a place, or none where the stream ends there and may.
 pub fn next_frame<S: Source>(source: &mut S, at: Cursor) -> Result<Option<Frame>, Refusal>
     ensures same { S.Source.content source.new ≡ S.Source.content source.old }

@@ -1,5 +1,5 @@
 -- What an index keeps, row by row.
-use Rattle.std.proofs.Common.{◌≡◌, ◌+◌, ◌<◌, Bool, true, false, cond, ◌||◌, List, [], ◌∷◌, ◌++◌, length, Some, None, fold, Option, sym, refl, ap, ◌∙◌, inl, inr, arith}
+use Rattle.std.proofs.Common.{◌≡◌, ◌<◌, Bool, true, false, cond, ◌||◌, List, [], ◌∷◌, ◌++◌, length, Some, None, fold, Option, sym, refl, ap, ◌∙◌, inl, inr, arith}
 use Rattle.std.specs.List.{AllByRecursion}
 use Rattle.std.proofs.lemmas.List.{append-nil, append_assoc, reverse-append}
 use Rattle.std.proofs.ByRecursion.{All-push, All-weaker}
@@ -12,24 +12,10 @@ module _ {R : Type 0} (same : R → R → Bool) (itself : (x : R) → same x x �
     (through : (x y z : R) → same x y ≡ true → same y z ≡ true → same x z ≡ true) where
   -- Rows with one key are told from the others alike.
   same_right : (x y z : R) → same x y ≡ true → same z x ≡ same z y
-  same_right x y z e =
-      elim (cases_Bool (same z x)) [
-        | inl t ↦ t ∙ sym (through z x y t e)
-        | inr f ↦ elim (cases_Bool (same z y)) [
-          | inl t ↦ absurd (both_ways _ f (through z y x t (turned x y e)))
-          | inr n ↦ f ∙ sym n
-        ]
-      ]
+  same_right x y z e = grind (arith, turned x y, through z x y, through z y x)
 
   same_left : (x y z : R) → same x y ≡ true → same x z ≡ same y z
-  same_left x y z e =
-      elim (cases_Bool (same x z)) [
-        | inl t ↦ t ∙ sym (through y x z (turned x y e) t)
-        | inr f ↦ elim (cases_Bool (same y z)) [
-          | inl t ↦ absurd (both_ways _ f (through x y z e t))
-          | inr n ↦ f ∙ sym n
-        ]
-      ]
+  same_left x y z e = grind (arith, turned x y, through y x z, through x y z)
 
   has_like : (x y : R) (rows : List R) → same x y ≡ true → has same rows x ≡ has same rows y
   has_like x y [] e = refl
@@ -47,24 +33,15 @@ module _ {R : Type 0} (same : R → R → Bool) (itself : (x : R) → same x x �
   -- One more row that came.
   has_push : (came : List R) (r q : R) → has same (came ++ r ∷ []) q ≡ (has same came q || same r q)
   has_push [] r q = grind arith
-  has_push (x ∷ xs) r q = rw (has_push xs r q) (or_assoc (same x q) (has same xs q) (same r q))
-    where
-      or_assoc : (a b c : Bool) → (a || (b || c)) ≡ ((a || b) || c)
-      or_assoc true b c = refl
-      or_assoc false b c = refl
+  has_push (x ∷ xs) r q = grind (arith, has_push xs r q)
 
   before_known : (came : List R) (r q : R) → has same came q ≡ true → (before same (came ++ r ∷ []) q ≡ before same came q) × (before same came q < length came)
   before_known [] r q h = absurd (both_ways false refl h)
-  before_known (x ∷ xs) r q h =
-      elim (cases_Bool (same x q)) [
-        | inl t ↦ rw t (refl, omega arith)
-        | inr f ↦ let k : has same xs q ≡ true = rw f at h in let (a, b) = before_known xs r q k in rw f (ap (λ n. 1 + n) a, omega arith)
-      ]
+  before_known (x ∷ xs) r q h = grind (arith, before_known xs r q)
 
   before_new : (came : List R) (r : R) → has same came r ≡ false → before same (came ++ r ∷ []) r ≡ length came
   before_new [] r h = rw (itself r)
-  before_new (x ∷ xs) r h =
-      let (a, b) = or_parts (same x r) (has same xs r) h in let e = before_new xs r b in rw (a, e) (omega arith)
+  before_new (x ∷ xs) r h = grind (arith, before_new xs r)
 
   found_none : (rows : List R) (q : R) → has same rows q ≡ false → found same rows q ≡ None
   found_none [] q h = refl
@@ -72,40 +49,16 @@ module _ {R : Type 0} (same : R → R → Bool) (itself : (x : R) → same x x �
 
   found_push : (rows : List R) (r q : R) → found same (rows ++ r ∷ []) q ≡ cond (has same rows q) (found same rows q) (cond (same r q) (Some r) None)
   found_push [] r q = refl
-  found_push (x ∷ xs) r q =
-      elim (cases_Bool (same x q)) [
-        | inl t ↦ rw t
-        | inr f ↦ rw f (found_push xs r q)
-      ]
+  found_push (x ∷ xs) r q = grind (arith, found_push xs r q)
 
   -- A row in the place of another with its key.
   has_replaced : (rows : List R) (r q : R) → has same (replaced same rows r) q ≡ has same rows q
   has_replaced [] r q = refl
-  has_replaced (x ∷ xs) r q =
-      elim (cases_Bool (same x r)) [
-        | inl t ↦ rw (t, same_left x r q t)
-        | inr f ↦ rw (f, has_replaced xs r q)
-      ]
+  has_replaced (x ∷ xs) r q = grind (arith, has_replaced xs r q, same_left x r q)
 
   found_replaced : (rows : List R) (r q : R) → has same rows r ≡ true → found same (replaced same rows r) q ≡ cond (same r q) (Some r) (found same rows q)
   found_replaced [] r q h = absurd (both_ways false refl h)
-  found_replaced (x ∷ xs) r q h =
-      elim (cases_Bool (same x r)) [
-        | inl t ↦ rw (t, same_left x r q t) (twice (same r q))
-        | inr f ↦
-            let k : has same xs r ≡ true = rw f at h in
-            rw (f, found_replaced xs r q k) (other (same x q) (same r q) (λ a b. both_ways _ f (through x q r a (turned r q b))))
-      ]
-    where
-      twice : (b : Bool) → cond b (Some r) (found same xs q) ≡ cond b (Some r) (cond b (Some x) (found same xs q))
-      twice true = refl
-      twice false = refl
-
-      other : (a b : Bool) → (a ≡ true → b ≡ true → ⊥) → cond a (Some x) (cond b (Some r) (found same xs q)) ≡ cond b (Some r) (cond a (Some x) (found same xs q))
-      other true true n = absurd (n refl refl)
-      other true false n = refl
-      other false true n = refl
-      other false false n = refl
+  found_replaced (x ∷ xs) r q h = grind (arith, found_replaced xs r q, same_left x r q, through x q r, turned r q)
 
   apart_replaced : (rows : List R) (r : R) → Apart same rows → Apart same (replaced same rows r)
   apart_replaced [] r a = tt
@@ -152,7 +105,7 @@ module _ {R : Type 0} (same : R → R → Bool) (itself : (x : R) → same x x �
       (has_push xs r x ∙ or_from _ _ a.0 (unturned r x b), apart_push xs r a.1 d)
     where
       unturned : (x y : R) → same y x ≡ false → same x y ≡ false
-      unturned x y e = elim (cases_Bool (same x y)) [ inl t ↦ absurd (both_ways _ e (turned x y t)) | inr f ↦ f ]
+      unturned x y e = grind (arith, turned x y)
 
   standing_push : (later : Bool) (came : List R) (r q : R)
       → standing same later (came ++ r ∷ []) q ≡ cond later (cond (same r q) (Some r) (standing same later came q)) (cond (has same came q) (standing same later came q) (cond (same r q) (Some r) None))
@@ -178,39 +131,16 @@ module _ {R : Type 0} (same : R → R → Bool) (itself : (x : R) → same x x �
         stands_new : (later : Bool) (q : R) → found same rows q ≡ standing same later came q
             → cond (has same rows q) (found same rows q) (cond (same r q) (Some r) None)
             ≡ cond later (cond (same r q) (Some r) (standing same later came q)) (cond (has same came q) (standing same later came q) (cond (same r q) (Some r) None))
-        stands_new true q e =
-            elim (cases_Bool (same r q)) [
-              | inl t ↦ rw (t, sym (has_like r q rows t) ∙ h)
-              | inr f ↦ elim (cases_Bool (has same rows q)) [
-                | inl y ↦ rw (f, y) e
-                | inr n ↦ rw (f, n) (sym (found_none rows q n) ∙ e)
-              ]
-            ]
+        stands_new true q e = grind (arith, has_like r q rows, found_none rows q)
         stands_new false q e = rw (e, k.keys q)
 
   -- A key that came before comes again.
   module _ (came : List R) (r : R) (h : has same came r ≡ true) (q : R) where
     has_again : has same (came ++ r ∷ []) q ≡ has same came q
-    has_again =
-        has_push came r q ∙ elim (cases_Bool (same r q)) [
-          | inl t ↦ let y : has same came q ≡ true = sym (has_like r q came t) ∙ h in rw (t, y)
-          | inr f ↦ rw f (or_false (has same came q))
-        ]
-      where
-        or_false : (b : Bool) → (b || false) ≡ b
-        or_false true = refl
-        or_false false = refl
+    has_again = grind (arith, has_push came r q, has_like r q came)
 
     found_again : found same (came ++ r ∷ []) q ≡ found same came q
-    found_again =
-        found_push came r q ∙ elim (cases_Bool (has same came q)) [
-          | inl y ↦ rw y
-          | inr n ↦
-              elim (cases_Bool (same r q)) [
-                | inl t ↦ absurd (both_ways _ n (sym (has_like r q came t) ∙ h))
-                | inr f ↦ rw (n, f) (sym (found_none came q n))
-              ]
-        ]
+    found_again = grind (arith, found_push came r q, has_like r q came, found_none came q)
 
   kept_more : (later : Bool) (came rows : List R) → Kept same later came rows → (r : R) → Kept same later (came ++ r ∷ []) (added same later rows r)
   kept_more later came rows k r =

@@ -1,9 +1,8 @@
 -- The first row with a key, and what adding a row does to a slice.
-use Rattle.std.proofs.Common.{◌≡◌, ℕ, suc, ◌+◌, ◌<◌, ◌≤◌, min, Bool, true, false, cond, not, ◌||◌, ltb, List, [], ◌∷◌, length, get_or, take, drop, set, Some, None, sym, refl, ap, ◌∙◌, inl, inr, ⊎_elim, one-add, arith, rules}
+use Rattle.std.proofs.Common.{◌≡◌, ℕ, suc, ◌+◌, ◌<◌, ◌≤◌, min, Bool, true, false, cond, not, ◌||◌, ltb, List, [], ◌∷◌, length, take, set, Some, None, refl, ◌∙◌, ⊎_elim, arith, rules}
 use Rattle.std.specs.List.{position as first_place}
 use Rattle.std.proofs.lemmas.List.{places, same_lists, take_more_set, drop-set-lt, length-set, length-take-le, get_or-set_same, take_all}
-use Rattle.std.proofs.lemmas.List.Sums.{prefix_len-drop_yes, prefix_len-drop_no, prefix_len-drop_all}
-use Rattle.std.proofs.lemmas.Bool.{cases_Bool, cases_eq, cases_lt, lt-ltb, le-ltb, both_ways}
+use Rattle.std.proofs.lemmas.Bool.{cases_eq, both_ways}
 use Rattle.std.proofs.lemmas.Bool.Decides.{nat_tests}
 use Rattle.index.specs.Rows.{has, before, position, replaced, Added}
 
@@ -22,43 +21,24 @@ module _ {R : Type 0} (same : R → R → Bool) where
   position_is rows r = rw (has_before rows r) refl
 
   pub position_some : (rows : List R) (r : R) (i : ℕ) → Some i ≡ position same rows r → (has same rows r ≡ true) × (i ≡ before same rows r)
-  position_some rows r i e =
-      elim (cases_Bool (has same rows r)) [
-        | inl t ↦ let s : Some i ≡ Some (before same rows r) = rw t at e in (t, cc)
-        | inr f ↦ absurd (let s : Some i ≡ None = rw f at e in let z : ◌≡◌ {A = ℕ} 0 1 = cc in omega arith)
-      ]
+  position_some rows r i e = grind arith
 
   pub position_nowhere : (rows : List R) (r : R) → None ≡ position same rows r → has same rows r ≡ false
-  position_nowhere rows r e =
-      elim (cases_Bool (has same rows r)) [
-        | inl t ↦ absurd (let s : None ≡ Some (before same rows r) = rw t at e in let z : ◌≡◌ {A = ℕ} 0 1 = cc in omega arith)
-        | inr f ↦ f
-      ]
+  position_nowhere rows r e = grind arith
 
   pub position_below : (rows : List R) (r : R) (i : ℕ) → Some i ≡ position same rows r → i < length rows
-  position_below rows r i e =
-      let (t, p) = position_some rows r i e in
-      let b = has_before rows r in
-      grind (arith, nat_tests)
+  position_below rows r i e = grind (arith, nat_tests, has_before rows r)
 
   set_before : (rows : List R) (r : R) → has same rows r ≡ true → set rows (before same rows r) r ≡ replaced same rows r
   set_before [] r h = absurd (both_ways false refl h)
-  set_before (x ∷ xs) r h =
-      elim (cases_Bool (same x r)) [
-        | inl t ↦ rw t
-        | inr f ↦ let k : has same xs r ≡ true = rw f at h in rw (f, one-add) (ap (λ l. x ∷ l) (set_before xs r k))
-      ]
+  set_before (x ∷ xs) r h = grind (arith, set_before xs r)
 
   take_set_below : (n i : ℕ) (xs : List R) (x : R) → i < n → n ≤ length xs → take n (set xs i x) ≡ set (take n xs) i x
   take_set_below n i xs x h l =
       same_lists _ _ (search (rules, places)) (λ k d m. ⊎_elim (λ e. grind (arith, places, get_or-set_same)) (λ e. grind (arith, places)) (cases_eq k i))
 
   pub take_min : (used n : ℕ) (rows : List R) → n ≡ min used (length rows) → take n rows ≡ take used rows
-  take_min used n rows e =
-      elim (cases_lt used (length rows)) [
-        | inl h ↦ let m : n ≡ used = omega arith in rw m
-        | inr h ↦ let m : length rows ≤ n = omega arith in rw (take_all n rows m, take_all used rows h)
-      ]
+  take_min used n rows e = grind (arith, take_all)
 
   -- What adding does where the key is new and there is room or none, where an earlier row stays, and where it gives way.
   module _ (later : Bool) (row : R) (start : List R) (used n : ℕ) (h : n ≤ length start) (e : take n start ≡ take used start) where

@@ -14,6 +14,7 @@ pub struct Name {
 }
 
 impl Name {
+    #[tactic(auto, using(std::proofs::lemmas::List::take_at))]
     pub fn new(text: &[u8]) -> Option<Name>
         ensures { MatchOption result
             (name_limit < length text.now)

@@ -1,6 +1,7 @@
 -- What is asked of a part of a list, where the part lies within the list and where it does not.
-use Rattle.std.proofs.Common.{◌≡◌, ℕ, ◌+◌, ◌<◌, ◌≤◌, Bool, true, false, cond, leb, List, length, Ok, Err, sym, refl, ap, ◌∙◌, arith}
-use Rattle.std.proofs.lemmas.Bool.{le-leb, lt-leb, leb-true, leb-false}
+use Rattle.std.proofs.Common.{◌≡◌, ℕ, ◌+◌, ◌<◌, ◌≤◌, List, length, Ok, Err, sym, ap, ◌∙◌, arith}
+use Rattle.std.proofs.lemmas.Bool.{le-leb, lt-leb}
+use Rattle.std.proofs.lemmas.Bool.Decides.{nat_tests}
 use Rattle.source.specs.Bytes.{part}
 use Rattle.source.specs.Outcome.{refused}
 use Rattle.source.specs.declared.refusals.Reason.TheVariants.{SourceEnd}
@@ -18,21 +19,11 @@ module _ {A : Type 0} (f : List ℕ → A) (xs : List ℕ) (place size : ℕ) wh
 
   pub asked_got : (a : A) → Ok a ≡ asked f xs place size → (place + size ≤ length xs) × (a ≡ f (part xs place size))
   unfolding asked
-  asked_got a e = by_test (leb (place + size) (length xs)) refl e
-    where
-      by_test : (b : Bool) → leb (place + size) (length xs) ≡ b → Ok a ≡ cond b (Ok (f (part xs place size))) (refused SourceEnd 0)
-          → (place + size ≤ length xs) × (a ≡ f (part xs place size))
-      by_test true t e = (leb-true (place + size) (length xs) t, cc)
-      by_test false t e = let z : ◌≡◌ {A = ℕ} 0 1 = cc in absurd (omega arith)
+  asked_got a e = grind (arith, nat_tests)
 
   pub asked_lost : (r : Refusal) → Err r ≡ asked f xs place size → (length xs < place + size) × (r ≡ record { reason = SourceEnd; place = 0 })
   unfolding asked
-  asked_lost r e = by_test (leb (place + size) (length xs)) refl e
-    where
-      by_test : (b : Bool) → leb (place + size) (length xs) ≡ b → Err r ≡ cond b (Ok (f (part xs place size))) (refused SourceEnd 0)
-          → (length xs < place + size) × (r ≡ record { reason = SourceEnd; place = 0 })
-      by_test true t e = let z : ◌≡◌ {A = ℕ} 0 1 = cc in absurd (omega arith)
-      by_test false t e = (leb-false (place + size) (length xs) t, cc)
+  asked_lost r e = grind (arith, nat_tests)
 
 -- Another question about the same part.
 module _ {A B : Type 0} (f : List ℕ → A) (k : List ℕ → B) (xs : List ℕ) (place size : ℕ) where

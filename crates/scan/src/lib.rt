@@ -50,6 +50,7 @@ fn after_all<A: Automaton>(start: A, bytes: &[u8]) -> A
     bytes.iter().fold(start, |state, byte| state.after(*byte))
 }
 
+#[tactic(auto, unfolding(crate::specs::Scans::asked, source::specs::Bytes::part))]
 // The state after the `size` bytes from `place` on.
 pub fn scan<S: Source, A: Automaton>(
     source: &mut S,
@@ -81,6 +82,7 @@ pub fn scan<S: Source, A: Automaton>(
     Ok(state)
 }
 
+#[tactic(auto, unfolding(crate::specs::Scans::asked))]
 // Whether the `size` bytes from `place` on are of the kind.
 pub fn recognize<A: Recognizer, S: Source>(
     source: &mut S,

@@ -50,12 +50,14 @@ impl Number for u16 {
         2
     }
 
+    #[tactic(auto, using(crate::proofs::Numbers::length_part, crate::proofs::Numbers::val_two), unfolding(crate::specs::Scans::asked, source::specs::Bytes::part))]
     fn at<S: Source>(source: &mut S, place: usize) -> Result<u16, Refusal> {
         let mut pair = [0u8; 2];
         source.fetch(place, &mut pair)?;
         Ok(u16::from_le_bytes(pair))
     }
 
+    #[tactic(auto, using(crate::proofs::Numbers::le_two))]
     fn to_bytes(self) -> [u8; 4] {
         let [low, high] = self.to_le_bytes();
         [low, high, 0, 0]
@@ -77,12 +79,14 @@ impl Number for u32 {
         4
     }
 
+    #[tactic(auto, using(crate::proofs::Numbers::length_part, crate::proofs::Numbers::val_four), unfolding(crate::specs::Scans::asked, source::specs::Bytes::part))]
     fn at<S: Source>(source: &mut S, place: usize) -> Result<u32, Refusal> {
         let mut four = [0u8; 4];
         source.fetch(place, &mut four)?;
         Ok(u32::from_le_bytes(four))
     }
 
+    #[tactic(auto, using(crate::proofs::Numbers::le_four))]
     fn to_bytes(self) -> [u8; 4] {
         self.to_le_bytes()
     }

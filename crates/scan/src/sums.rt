@@ -22,6 +22,7 @@ impl Automaton for Sum {
     }
 }
 
+#[tactic(auto, using(crate::proofs::RunningSums::folded_sum), unfolding(crate::specs::Scans::asked))]
 // The sum of the `size` bytes from `place` on, modulo 65,536.
 pub fn checksum<S: Source>(source: &mut S, place: usize, size: usize) -> Result<u16, Refusal>
     ensures same { S.Source.content source.new ≡ S.Source.content source.old }

@@ -68,18 +68,6 @@ pub fetched_first : (xs ys : List ℕ) (i : ℕ) (before after : List ℕ) (r : 
 fetched_first xs ys i before after (Ok x) k h f = (k, rw (part_of_clamped, part_of_first) f.1)
 fetched_first xs ys i before after (Err e) k h f = (omega arith, f.1, f.2)
 
-pub fetched_both : (xs ys : List ℕ) (a i m : ℕ) (before after front back back' : List ℕ) (r : Result (Unit {0}) Refusal)
-    → a ≡ length xs → front ≡ take m (drop i xs) → Fetched ys 0 back back' r
-    → i + length before ≤ length (clamped (xs ++ ys)) → i ≤ a → a ≤ i + length before
-    → m ≡ a - i → length back ≡ length before - (a - i) → after ≡ front ++ back'
-    → Fetched (clamped (xs ++ ys)) i before after r
-fetched_both xs ys a i m before after front back back' (Ok x) e s f k h l p q t =
-    let b : i ≤ length xs = omega arith in
-    let d : length xs ≤ i + length before = omega arith in
-    (k, rw (part_of_clamped, part_of_both, ← e) (let u = f.1 in cc))
-fetched_both xs ys a i m before after front back back' (Err z) e s f k h l p q t =
-    absurd (omega (arith, f.0, length_clamped (xs ++ ys), length-append xs ys))
-
 pub fetched_window : (xs : List ℕ) (size start i : ℕ) (before after : List ℕ) (r : Result (Unit {0}) Refusal)
     → i + length before ≤ length (take size (drop start xs)) → start < length xs
     → Fetched xs (start + i) before after r → Fetched (take size (drop start xs)) i before after r
@@ -99,10 +87,24 @@ pub window_within : (xs : List ℕ) (size start i n : ℕ)
 window_within xs size start i n k h = omega (arith, length-take size (drop start xs), length-drop start xs)
 
 -- A write to the first k elements, and then one to the rest.
-pub second_part : (k : ℕ) (xs front : List ℕ) → k ≤ length xs → length front ≡ k
-    → length (take (length xs - k) (drop k (front ++ post_of 0 (k - 0) xs))) ≡ length xs - k
-second_part k xs front h e = search (rules, places)
-
 pub both_parts : (k : ℕ) (xs front back : List ℕ) → k ≤ length xs → length front ≡ k → length back ≡ length xs - k
     → put_mid k (length xs - k) (front ++ post_of 0 (k - 0) xs) back ≡ front ++ back
 both_parts k xs front back h e l = same_lists _ _ (search (rules, places)) (λ j d l. grind (arith, places))
+
+pub fetched_both : (xs ys : List ℕ) (a i : ℕ) (before front after : List ℕ) (r : Result (Unit {0}) Refusal)
+    → i + length before ≤ length (clamped (xs ++ ys)) → a ≡ length xs → i ≤ a → a ≤ i + length before
+    → front ≡ take (length (take (a - i - 0) before)) (drop i xs)
+    → Fetched ys 0 (take (length before - (a - i)) (drop (a - i) (front ++ post_of 0 (a - i - 0) before))) after r
+    → Fetched (clamped (xs ++ ys)) i before (put_mid (a - i) (length before - (a - i)) (front ++ post_of 0 (a - i - 0) before) after) r
+fetched_both xs ys a i before front after (Ok x) k e h l s f =
+    let w : length (take (a - i - 0) before) ≡ a - i = search (rules, places) in
+    let n : length front ≡ a - i = search (rules, places) in
+    let m : length (take (length before - (a - i)) (drop (a - i) (front ++ post_of 0 (a - i - 0) before))) ≡ length before - (a - i) = search (rules, places) in
+    let t = both_parts (a - i) before front after (omega arith) n (search (rules, places)) in
+    let b : i ≤ length xs = omega arith in
+    let d : length xs ≤ i + length before = omega arith in
+    (k, rw (part_of_clamped, part_of_both, ← e) (let u = f.1 in cc))
+fetched_both xs ys a i before front after (Err z) k e h l s f =
+    let n : length front ≡ a - i = search (rules, places) in
+    let m : length (take (length before - (a - i)) (drop (a - i) (front ++ post_of 0 (a - i - 0) before))) ≡ length before - (a - i) = search (rules, places) in
+    absurd (omega (arith, f.0, length_clamped (xs ++ ys), length-append xs ys))

@@ -12,6 +12,7 @@ pub struct Join<A, B> {
 }
 
 impl<A: Source, B: Source> Join<A, B> {
+    #[tactic(auto, using(std::proofs::lemmas::List::places, crate::proofs::Spans::clamped_all))]
     // The first source's bytes, then the second's; where they are too many, both are handed back.
     pub fn new(first: A, second: B) -> Result<Join<A, B>, Returned<(A, B)>>
         ensures { MatchResult result
@@ -47,12 +48,14 @@ impl<A: Source, B: Source> Join<A, B> {
 impl<A: Source, B: Source> Source for Join<A, B> {
     ghost content = { λ s. pair (A.Source.content s.first) (B.Source.content s.second) };
 
+    #[tactic(auto, using(std::proofs::lemmas::List::places, crate::proofs::Spans::length_clamped, crate::proofs::Spans::octets_clamped, crate::proofs::Spans::octets_append))]
     fn len(&self) -> usize {
         let a = self.first.len();
         let b = self.second.len();
         (a + b).min(SOURCE_LIMIT)
     }
 
+    #[tactic(auto, using(crate::proofs::Spans::fetched_second, crate::proofs::Spans::fetched_first, crate::proofs::Spans::fetched_both))]
     fn fetch(&mut self, place: usize, buffer: &mut [u8]) -> Result<(), Refusal> {
         let total = self.len();
         let a = self.first.len();

@@ -21,6 +21,7 @@ pub struct Held<'a> {
 }
 
 impl<'a> Held<'a> {
+    #[tactic(auto, using(crate::proofs::Spans::clamped_all))]
     // The bytes as a source; more than the limit are refused.
     pub fn new(bytes: &'a [u8]) -> Result<Held<'a>, Refusal>
         ensures { MatchResult result
@@ -53,6 +54,7 @@ impl Source for Held<'_> {
         self.bytes.len().min(SOURCE_LIMIT)
     }
 
+    #[tactic(auto, using(crate::proofs::Spans::length_clamped, crate::proofs::Spans::part_of_clamped))]
     fn fetch(&mut self, place: usize, buffer: &mut [u8]) -> Result<(), Refusal> {
         let total = self.len();
         let n = buffer.len();

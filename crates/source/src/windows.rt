@@ -57,6 +57,7 @@ impl<S: Source> Source for Window<S> {
         rest.min(self.size)
     }
 
+    #[tactic(auto, using(crate::proofs::Spans::fetched_window, crate::proofs::Spans::fetched_past, crate::proofs::Spans::window_within))]
     fn fetch(&mut self, place: usize, buffer: &mut [u8]) -> Result<(), Refusal> {
         let whole = self.inner.len();
         let total = self.len();

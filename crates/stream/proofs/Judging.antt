@@ -1,29 +1,25 @@
 -- What judging a frame's data gives, by its rule; and a stream judged frame by frame.
-use Rattle.std.proofs.Common.{◌≡◌, ℕ, zero, suc, ◌+◌, ◌<◌, ◌≤◌, cond, List, ◌∷◌, length, is_some, Some, None, Ok, Err, Option, sym, refl, ap, ◌∙◌, arith}
+use Rattle.std.proofs.Common.{◌≡◌, ℕ, zero, suc, ◌+◌, ◌<◌, cond, List, length, is_some, Some, None, Ok, Err, Option, sym, refl, ap, ◌∙◌, arith}
+use Rattle.std.proofs.lemmas.Bool.{lt-leb, ne_eqb}
 use Rattle.source.specs.Bytes.{part}
-use Rattle.source.specs.Outcome.{Outcome, ◌>>=◌, given, over, refused}
+use Rattle.source.specs.Outcome.{Outcome, ◌>>=◌, ◌>>◌, given, over, refused}
 use Rattle.source.specs.declared.refusals.Reason.TheVariants.{NotAdmitted, StreamEnd}
 use Rattle.source.specs.declared.refusals.Refusal.{Refusal}
-use Rattle.source.proofs.Outcomes.{err_not_ok, over_over}
+use Rattle.source.proofs.Outcomes.{over_over}
 use Rattle.attribute.specs.declared.Rule.{Rule}
 use Rattle.attribute.specs.declared.Rule.TheVariants as rule
-use Rattle.frame.specs.Frames.{header, next_frame}
+use Rattle.frame.specs.Frames.{header, head_at, frame_at, next_frame}
 use Rattle.frame.specs.declared.Frame.{Frame}
 use Rattle.frame.specs.declared.stages.Stage.{Stage}
 use Rattle.frame.specs.declared.stages.Stage.TheVariants as stage
-use Rattle.frame.proofs.Checks.{head_short, frame_short, frames_go_on}
 use Rattle.frame.proofs.Standing.{next_stands}
 use Rattle.contents.specs.Contents.{Contents, means, admits}
-use Rattle.property.specs.Fields.{data_end}
 use Rattle.property.specs.Lists.{property_list, recipient_table}
-use Rattle.stream.specs.Reading.{Meant, nature, meant_as, meant_at, judged, next_judged, Entry, entries_from, entries_at, entries_of}
+use Rattle.stream.specs.Reading.{Meant, nature, meant_as, judged, next_judged, Entry, entries_from, entries_at, entries_of}
 
 -- Only whether.
 abbrev pub told : {A : Type 0} → Outcome A → Outcome (Unit {0})
 told o = over (λ _. tt) o
-
-pub data_ends : (xs : List ℕ) (end : ℕ) → end ≤ length xs → data_end xs end ≡ end
-data_ends xs end h = omega arith
 
 admitted : (o : Option Contents) (f : Contents → Meant) (base : ℕ) → told (over f (given o NotAdmitted base)) ≡ cond (is_some o) (Ok tt) (refused NotAdmitted base)
 admitted (Some c) f base = refl
@@ -55,37 +51,6 @@ module _ (xs : List ℕ) (base n : ℕ) where
   unfolding meant_as
   by_list = over_over _ _ (property_list xs base (base + n))
 
--- The next frame with its data.
-module _ (xs : List ℕ) (p : ℕ) (s : Stage) where
-  pub next_refused : (r : Refusal) → Err r ≡ next_frame xs p s → Err r ≡ next_judged xs p s
-  unfolding next_judged
-  next_refused r e = rw (← e)
-
-  pub next_none : Ok None ≡ next_frame xs p s → Ok None ≡ next_judged xs p s
-  unfolding next_judged
-  next_none e = rw (← e)
-
-  pub next_bad : (f : Frame) (r : Refusal) → Ok (Some f) ≡ next_frame xs p s → Err r ≡ told (meant_at xs f) → Err r ≡ next_judged xs p s
-  unfolding next_judged
-  next_bad f r e m = rw (← e) (bad (meant_at xs f) m)
-    where
-      bad : (o : Outcome Meant) → Err r ≡ told o → Err r ≡ over (λ m. Some f) o
-      bad (Ok m) e = absurd (err_not_ok e)
-      bad (Err q) e = cc
-
-  pub next_good : (f : Frame) (u : Unit {0}) → Ok (Some f) ≡ next_frame xs p s → Ok u ≡ told (meant_at xs f) → Ok (Some f) ≡ next_judged xs p s
-  unfolding next_judged
-  next_good f u e m = rw (← e) (good (meant_at xs f) m)
-    where
-      good : (o : Outcome Meant) → Ok u ≡ told o → Ok (Some f) ≡ over (λ m. Some f) o
-      good (Ok m) e = refl
-      good (Err q) e = absurd (err_not_ok (sym e))
-
-told_cons : (x : Entry) (o : Outcome (List Entry)) → told o ≡ told (o >>= (λ es. Ok (x ∷ es)))
-unfolding ◌>>=◌
-told_cons x (Ok es) = refl
-told_cons x (Err r) = refl
-
 -- Any fuel that outlasts the stream gives the same entries.
 module _ (xs : List ℕ) where
   same_from : (j k : Frame → Outcome (List Entry)) (o : Option Frame) → ((f : Frame) → o ≡ Some f → j f ≡ k f) → entries_from j xs o ≡ entries_from k xs o
@@ -99,7 +64,8 @@ module _ (xs : List ℕ) where
   bind_same (Err r) j k e = refl
 
   past_end : (p : ℕ) (s : Stage) → length xs < p → next_frame xs p s ≡ refused StreamEnd p
-  past_end p s h = sym (ap (over Some) (frame_short xs p s _ (head_short xs p (omega arith))) ∙ frames_go_on xs p s (λ e m. omega arith))
+  unfolding next_frame frame_at head_at ◌>>=◌ ◌>>◌
+  past_end p s h = rw (ne_eqb p (length xs) (λ e. omega arith), lt-leb (p + 9) (length xs) (omega arith))
 
   past : (b : ℕ) (p : ℕ) (s : Stage) → length xs < p → entries_at b xs p s ≡ refused StreamEnd p
   unfolding entries_at ◌>>=◌
@@ -119,37 +85,21 @@ module _ (xs : List ℕ) where
       → Err r ≡ (o >>= judged xs) → Err r ≡ told (o >>= entries_from rest xs)
   unfolding ◌>>=◌ entries_from
   refused_by rest (Err q) r e = cc
-  refused_by rest (Ok None) r e = absurd (err_not_ok e)
-  refused_by rest (Ok (Some f)) r e = by_data (meant_at xs f) e
-    where
-      by_data : (o : Outcome Meant) → Err r ≡ over (λ m. Some f) o
-          → Err r ≡ told (o >>= (λ m. rest f >>= (λ es. Ok (record { id = f.attribute.id; meant = m } ∷ es))))
-      by_data (Ok m) e = absurd (err_not_ok e)
-      by_data (Err q) e = cc
+  refused_by rest (Ok None) r e = grind arith
+  refused_by rest (Ok (Some f)) r e = grind arith
 
   ended_by : (rest : Frame → Outcome (List Entry)) (o : Outcome (Option Frame)) → Ok None ≡ (o >>= judged xs) → Ok tt ≡ told (o >>= entries_from rest xs)
   unfolding ◌>>=◌ entries_from
-  ended_by rest (Err q) e = absurd (err_not_ok (sym e))
+  ended_by rest (Err q) e = grind arith
   ended_by rest (Ok None) e = refl
-  ended_by rest (Ok (Some f)) e = by_data (meant_at xs f) e
-    where
-      by_data : (o : Outcome Meant) → Ok None ≡ over (λ m. Some f) o
-          → Ok tt ≡ told (o >>= (λ m. rest f >>= (λ es. Ok (record { id = f.attribute.id; meant = m } ∷ es))))
-      by_data (Ok m) e = let z : ◌≡◌ {A = ℕ} 0 1 = cc in absurd (omega arith)
-      by_data (Err q) e = absurd (err_not_ok (sym e))
+  ended_by rest (Ok (Some f)) e = grind arith
 
   on_by : (rest : Frame → Outcome (List Entry)) (o : Outcome (Option Frame)) (f : Frame) → Ok (Some f) ≡ (o >>= judged xs)
-      → (Ok (Some f) ≡ o) × (told (rest f) ≡ told (o >>= entries_from rest xs))
+      → told (rest f) ≡ told (o >>= entries_from rest xs)
   unfolding ◌>>=◌ entries_from
-  on_by rest (Err q) f e = absurd (err_not_ok (sym e))
-  on_by rest (Ok None) f e = let z : ◌≡◌ {A = ℕ} 0 1 = cc in absurd (omega arith)
-  on_by rest (Ok (Some g)) f e = by_data (meant_at xs g) e
-    where
-      by_data : (o : Outcome Meant) → Ok (Some f) ≡ over (λ m. Some g) o
-          → (◌≡◌ {A = Outcome (Option Frame)} (Ok (Some f)) (Ok (Some g)))
-          × (told (rest f) ≡ told (o >>= (λ m. rest g >>= (λ es. Ok (record { id = g.attribute.id; meant = m } ∷ es)))))
-      by_data (Ok m) e = let q : f ≡ g = cc in (ap (λ x. Ok (Some x)) q, rw q (told_cons (record { id = g.attribute.id; meant = m }) (rest g)))
-      by_data (Err q) e = absurd (err_not_ok (sym e))
+  on_by rest (Err q) f e = grind arith
+  on_by rest (Ok None) f e = grind arith
+  on_by rest (Ok (Some g)) f e = grind arith
 
   -- The rest of the stream from p, with fuel enough.
   abbrev pub rest_at : ℕ → Stage → Outcome (Unit {0})
@@ -168,7 +118,7 @@ module _ (xs : List ℕ) where
 
   pub rest_on : (p : ℕ) (s : Stage) (f : Frame) → 0 < p → Ok (Some f) ≡ next_judged xs p s → rest_at f.next f.stage ≡ rest_at p s
   unfolding next_judged entries_at
-  rest_on p s f h e = (on_by (λ f. entries_at (length xs) xs f.next f.stage) (next_frame xs p s) f e).1 ∙ sym (one_more p s h)
+  rest_on p s f h e = (on_by (λ f. entries_at (length xs) xs f.next f.stage) (next_frame xs p s) f e) ∙ sym (one_more p s h)
 
   pub unsigned : (r : Refusal) → Err r ≡ header xs → Err r ≡ told (entries_of xs)
   unfolding entries_of ◌>>=◌

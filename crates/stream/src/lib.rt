@@ -13,6 +13,7 @@ use frame::{Cursor, Frame, HEAD_SIZE, header, next_frame};
 use property::{property_list, recipient_table};
 use source::{Reason, Refusal, Source};
 
+#[tactic(auto, using(crate::proofs::Judging::by_rule, crate::proofs::Judging::by_table, crate::proofs::Judging::by_list), unfolding(scan::specs::Scans::asked))]
 // Judges the data of a frame by its rule.
 fn judge_data<S: Source>(source: &mut S, frame: Frame) -> Result<(), Refusal>
     requires { frame.place + 9 + frame.size ≤ length (meaning (S.Source.content source.old)) }
@@ -37,6 +38,7 @@ fn judge_data<S: Source>(source: &mut S, frame: Frame) -> Result<(), Refusal>
     }
 }
 
+#[tactic(auto, using(frame::proofs::Standing::next_stands), unfolding(crate::specs::Reading::next_judged))]
 // The frame at a place with its data judged, or none where the stream ends there and may.
 pub fn next_judged<S: Source>(source: &mut S, at: Cursor) -> Result<Option<Frame>, Refusal>
     ensures same { S.Source.content source.new ≡ S.Source.content source.old }
@@ -50,6 +52,7 @@ pub fn next_judged<S: Source>(source: &mut S, at: Cursor) -> Result<Option<Frame
     Ok(Some(frame))
 }
 
+#[tactic(auto, using(crate::proofs::Judging::rest_refused, crate::proofs::Judging::rest_ended, crate::proofs::Judging::rest_on, crate::proofs::Judging::unsigned, crate::proofs::Judging::opened))]
 // The first refusal of a stream, if it is not readable.
 pub fn judge<S: Source>(source: &mut S) -> Result<(), Refusal>
     ensures same { S.Source.content source.new ≡ S.Source.content source.old }
