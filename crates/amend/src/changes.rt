@@ -2,7 +2,7 @@
 use attribute::Attribute;
 use index::{PropertyKey, PropertyRow};
 
-// To the attributes of a target.
+// To the attributes of a target; beside `Listing`, since what is put and what is dropped differ in both.
 #[derive(Clone, Copy)]
 pub enum Slot {
     Kept,

@@ -1,4 +1,5 @@
-// Writing the form of a message anew with one part of it changed.
+// Writing the form of a message anew with one part of it changed, beside the writers of `form`, which take no input and
+// promise nothing of changes. What the parts require stays in clauses, as in `form`: each is of the source, lent anew.
 #![tactic(auto)]
 
 mod attachings;

@@ -2,7 +2,8 @@
 ghost use Rattle.std.specs.Prelude.{◌≡◌};
 ghost use Rattle.attribute.specs.Names.{name_of};
 
-// The name of the attribute that has the id; empty where none has.
+// The name of the attribute that has the id; empty where none has, and no Option, since callers are promised the text.
+// Names are no part of the table, since callers make attributes of three fields.
 pub fn name_of(id: u32) -> &'static str
     ensures { result.now ≡ name_of id }
 {

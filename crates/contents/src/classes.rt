@@ -91,7 +91,8 @@ pub fn class_of(text: &[u8]) -> Option<usize>
     number_in(&PAIRS, text)
 }
 
-// The attribute value of pair k of a table, from 1; nothing where there is no such pair.
+// The attribute value of pair k of a table, from 1; empty where there is no such pair, and no Option, since callers are
+// promised the text.
 #[tactic(auto, using(crate::proofs::Spellings::text_here, crate::proofs::Spellings::text_none))]
 fn text_in(table: &[Pair], k: usize) -> &'static [u8]
     ensures { result.now ≡ class_text (map spelled table.now) k }

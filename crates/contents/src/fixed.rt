@@ -62,7 +62,7 @@ pub(crate) fn exactly<S: Source, const N: usize>(
     Ok(Some(bytes))
 }
 
-// The number that a part of `width` bytes means.
+// The number that a part of `width` bytes means; one function for both widths, since the definitions count by a width.
 #[tactic(auto, using(scan::proofs::Numbers::length_part), unfolding(crate::specs::Options::exactly, scan::specs::Scans::asked, source::specs::Bytes::part))]
 pub(crate) fn number<S: Source>(
     source: &mut S,

@@ -134,6 +134,7 @@ pub fn write_normal<S: Source>(
     ensures same { S.Source.content source.new ≡ S.Source.content source.old }
     ensures value { Written rule (meaning (S.Source.content source.old)) place size pen.old pen.new }
 {
+    // Both arms of each inner match stand there, since an `if let` keeps nothing of what it leaves out.
     match rule {
         Rule::Text | Rule::Priority | Rule::Raw | Rule::Rendering | Rule::Version => {
             write_same(source, place, size, pen)

@@ -1,4 +1,6 @@
 // The checks of edits, in their order: target, input, key, limit.
+// That the source is readable is required by each: a struct of a lent source with that fact would have to show it again
+// behind each read.
 ghost use Rattle.std.specs.Prelude.{◌≡◌, ◌≤◌, [], length, Some};
 ghost use Rattle.source.specs.Content.{meaning};
 ghost use Rattle.source.specs.Outcome.{over, given};
@@ -237,7 +239,7 @@ pub(crate) fn remove_attachment<S: Source>(
     Ok(to_attachments(Change::Removed(number)))
 }
 
-// The amendment that an edit asks for, or what refuses it.
+// The amendment that an edit asks for, or what refuses it; a match on the edits, which are closed: none can be missed.
 pub(crate) fn check<S: Source>(
     source: &mut S,
     what: Edit<'_>,

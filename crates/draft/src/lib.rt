@@ -37,7 +37,8 @@ pub const BLANK_ROW: PropertyRow = PropertyRow {
     next: 0,
 };
 
-// Memory that a call works in, and leaves all zero.
+// Memory that a call works in, and leaves all zero. Within a call it is taken apart: one part is lent while the other is
+// written.
 pub struct Work<'a> {
     pub bytes: &'a mut [u8],
     pub rows: &'a mut [PropertyRow],
@@ -83,7 +84,8 @@ fn restate_within<S: Source>(
     restate(source, rows, &mut bytes[0..room])
 }
 
-// The form of a blank message up to its primary number.
+// The form of a blank message up to its primary number, written out: closing a frame asks for an area below 2^32 bytes,
+// which no caller has to promise.
 const FRONT: &[u8; 30] = b"\
     \x78\x9F\x3E\x22\x01\x00\
     \x01\x06\x90\x08\x00\x04\x00\x00\x00\x00\x00\x01\x00\x01\x00\

@@ -16,6 +16,7 @@ const NO_ROW: AttributeRow = AttributeRow {
     size: 0,
 };
 
+// An array and a count, since nothing is allocated; a list to whoever reads a contract.
 #[derive(Drop)]
 pub struct Rows {
     rows: [AttributeRow; ROW_COUNT],

@@ -35,7 +35,8 @@ pub fn write_form<S: Source>(source: &mut S, lent: &mut [PropertyRow], pen: &mut
     write_attachments(source, at, lent, pen);
 }
 
-// The written form at the front of a slice: how long it is, if it fits.
+// The written form at the front of a slice: how long it is, if it fits. Whoever makes a pen has such a function; one for all
+// would take the writer as a closure and need a longer contract than they have.
 pub(crate) fn fill<S: Source>(
     source: &mut S,
     lent: &mut [PropertyRow],

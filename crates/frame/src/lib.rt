@@ -68,6 +68,7 @@ pub fn header<S: Source>(source: &mut S) -> Result<u16, Refusal>
     ensures reads { result ≡ header (meaning (S.Source.content source.old)) }
 {
     let mut bytes = [0u8; HEADER_SIZE];
+    // A match: that the stream ends too early is what the refused fetch promises.
     match source.fetch(0, &mut bytes) {
         Err(_) => Err(Refusal {
             reason: Reason::StreamEnd,

@@ -1,5 +1,5 @@
 -- `same_key` decides the equality of keys.
-use Rattle.std.specs.Prelude.{◌≡◌, ℕ, true, false, List, refl}
+use Rattle.std.specs.Prelude.{◌≡◌, ℕ, Bool, true, false, List, Decides, refl}
 use Rattle.std.proofs.Common.{ap}
 use Rattle.std.specs.Cmp.{IsEquivalence, decided}
 use Rattle.std.specs.Str.{bytes_eq}
@@ -30,6 +30,9 @@ same_key_true (named g s) (named h t) e =
 
 pub same_key_from : (k l : Key) → k ≡ l → same_key k l ≡ true
 same_key_from k l e = rw e (key_itself l)
+
+pub decides_key : (r : Bool) (k l : Key) → r ≡ same_key k l → Decides r (k ≡ l)
+decides_key r k l e = rw e (same_key_true k l, same_key_from k l)
 
 -- Things with one key are alike.
 pub alike_by_key : {A : Type 0} (key : A → Key) → IsEquivalence (λ x y. same_key (key x) (key y))

@@ -48,7 +48,7 @@ pub fn find<R: Row>(rows: &[R], probe: &R) -> Option<usize>
 }
 
 #[tactic(auto, using(crate::proofs::Positions::position_below, crate::proofs::Positions::take_min, crate::proofs::Positions::added_new, crate::proofs::Positions::added_none, crate::proofs::Positions::added_stays))]
-// Adds `row` to the first `used` rows, and says how many there are then, or nothing where its key is new and there is no room.
+// Adds `row` to the first `used` rows (the rows are lent, so how many are used goes beside them), and says how many there are then, or nothing where its key is new and there is no room.
 pub fn add<R: Row>(rows: &mut [R], used: usize, row: R) -> Option<usize>
     ensures { Added R.Row.same R.Row.later used row rows.old rows.new result }
 {

@@ -28,7 +28,7 @@ pub fn flag_at<S: Source>(source: &mut S, place: usize) -> u16
     u16::at(source, place).unwrap().min(1)
 }
 
-// How many bytes fill `size` up to a multiple of four.
+// How many bytes fill `size` up to a multiple of four; beside `padded`, which asks that sizes are small.
 pub fn gap(size: usize) -> usize
     ensures { result ≡ padded size - size }
 {

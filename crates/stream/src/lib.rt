@@ -14,7 +14,7 @@ use property::{property_list, recipient_table};
 use source::{Reason, Refusal, Source};
 
 #[tactic(auto, using(crate::proofs::Judging::by_rule, crate::proofs::Judging::by_table, crate::proofs::Judging::by_list), unfolding(scan::specs::Scans::asked))]
-// Judges the data of a frame by its rule.
+// Judges the data of a frame by its rule; a match on the rules, which are closed: none can be missed.
 fn judge_data<S: Source>(source: &mut S, frame: Frame) -> Result<(), Refusal>
     requires { frame.place + 9 + frame.size ≤ length (meaning (S.Source.content source.old)) }
     ensures same { S.Source.content source.new ≡ S.Source.content source.old }
