@@ -1,4 +1,4 @@
--- What a table of pairs spells, pair by pair; and texts that begin with a prefix.
+-- Texts that begin with a prefix, and the attribute value of a pair by its number.
 use Rattle.std.proofs.Common.{◌≡◌, ℕ, zero, suc, ◌<◌, false, ◌⊎◌, List, [], ◌∷◌, ◌++◌, map, length, get_or, sym, refl, ap, ◌∙◌, arith, rules}
 use Rattle.std.proofs.lemmas.Slice.Eq.{compares_Decides}
 use Rattle.std.proofs.lemmas.Bool.{eq-eqb, false_from_ne_true}
