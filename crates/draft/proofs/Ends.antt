@@ -1,6 +1,7 @@
 -- What an edit makes of a message, at each end of its checks.
 use Rattle.std.proofs.Common.{◌≡◌, ℕ, ◌<◌, ◌≤◌, Bool, true, false, not, ◌||◌, eqb, ltb, ◌⊎◌, List, length, Some, None, Ok, Err, Option, sym, refl, ap, ◌∙◌, inl, inr}
 use Rattle.std.proofs.lemmas.Bool.{both_ways, lt-ltb, le-ltb}
+use Rattle.std.specs.Option.{ok_or}
 use Rattle.source.specs.Content.{source_limit}
 use Rattle.source.specs.Outcome.{Outcome, ◌>>=◌, ◌>>◌, need, given, refused}
 use Rattle.source.specs.declared.refusals.Reason.TheVariants.{Level, UnknownId, Misplaced, NotAdmitted, Limit, Missing}
@@ -28,6 +29,16 @@ use Rattle.editing.specs.Amendments as spec
 use Rattle.editing.specs.Amendments.{amended, to_target, to_page, to_rows, to_attachments}
 use Rattle.draft.specs.Checks.{NamedFor}
 use Rattle.draft.proofs.Changing.{at_target, contents_held}
+
+-- What is there, or the refusal of what is missing.
+module _ {A : Type 0} (r : Refusal) where
+  pub ok_or_got : (o : Option A) (a : A) → Ok a ≡ ok_or o r → o ≡ Some a
+  ok_or_got (Some x) a e = cc
+  ok_or_got None a e = absurd (err_not_ok (sym e))
+
+  pub ok_or_lost : (o : Option A) (x : Refusal) → Err x ≡ ok_or o r → (o ≡ None) × (x ≡ r)
+  ok_or_lost (Some y) x e = absurd (err_not_ok e)
+  ok_or_lost None x e = (refl, cc)
 
 got : {A : Type 0} (o : Outcome A) (u : Unit {0}) → Ok u ≡ done o → (a : A) × (o ≡ Ok a)
 got o u e = let (a, p, q) = over_got _ o u e in (a, sym p)

@@ -1,5 +1,6 @@
 -- What is written for an amended message, and for an edit.
 use Rattle.std.proofs.Common.{◌≡◌, ℕ, ◌-◌, ◌<◌, ◌≤◌, min, Bool, true, false, ◌&&◌, leb, List, ◌++◌, length, take, Some, None, IfOk, Ok, Err, Option, Result, sym, refl, ap, ◌∙◌, arith}
+use Rattle.std.specs.Option.{ok_or}
 use Rattle.std.specs.Str.{bytes_eq}
 use Rattle.std.proofs.lemmas.Slice.Eq.{bytes_eq-Decides}
 use Rattle.std.proofs.lemmas.List.{take-append-le}
@@ -34,20 +35,28 @@ module _ (room : ℕ) (m : Message) (before after rest : List ℕ) (h : length b
   fits_not : (n : ℕ) → min room source_limit < n → (leb n room && leb n source_limit) ≡ false
   fits_not n h = grind (arith, nat_tests)
 
-  pub wrote_form : (n : ℕ) → Fills before (written m) after (Some n) → Ok n ≡ over length (fitted room m)
+  wrote_some_form : (n : ℕ) → Fills before (written m) after (Some n) → Ok n ≡ over length (fitted room m)
   unfolding fitted ◌>>◌
-  wrote_form n p = let (e, l, t) = wrote_some before (written m) after n p in rw (fits (length (written m)) (omega arith), e)
+  wrote_some_form n p = let (e, l, t) = wrote_some before (written m) after n p in rw (fits (length (written m)) (omega arith), e)
 
-  pub wrote_front : (n : ℕ) → Fills before (written m) after (Some n) → Front (fitted room m) (after ++ rest)
+  wrote_some_front : (n : ℕ) → Fills before (written m) after (Some n) → Front (fitted room m) (after ++ rest)
   unfolding fitted ◌>>◌
-  wrote_front n p =
+  wrote_some_front n p =
       let (e, l, t) = wrote_some before (written m) after n p in
       let k : length (written m) ≤ length after = omega (arith, p.kept) in
       rw (fits (length (written m)) (omega arith)) (take-append-le (length (written m)) after rest k ∙ rw (← e) t)
 
-  pub wrote_nothing : Fills before (written m) after None → fitted room m ≡ refused FormTooLong 0
+  wrote_nothing : Fills before (written m) after None → fitted room m ≡ refused FormTooLong 0
   unfolding fitted ◌>>◌
   wrote_nothing p = rw (fits_not (length (written m)) (omega (arith, wrote_none before (written m) after p)))
+
+  pub wrote_form : (o : Option ℕ) → Fills before (written m) after o → ok_or o (record { reason = FormTooLong; place = 0 }) ≡ over length (fitted room m)
+  wrote_form (Some n) p = wrote_some_form n p
+  wrote_form None p = sym (ap (over length) (wrote_nothing p))
+
+  pub wrote_front : (o : Option ℕ) → Fills before (written m) after o → Front (fitted room m) (after ++ rest)
+  wrote_front (Some n) p = wrote_some_front n p
+  wrote_front None p = rw (wrote_nothing p) tt
 
 -- A readable stream, and the message in it.
 pub read_good : (xs : List ℕ) (m : Message) → read xs ≡ Ok m → Readable xs 6 Version × (message_in xs ≡ m)

@@ -86,9 +86,7 @@ pub(crate) fn drop_attribute<S: Source>(
 {
     target_there(source, target)?;
     let attribute = attribute_for(target, id, Usage::Drop)?;
-    let Some(_) = attribute_row(source, target, attribute) else {
-        return Err(MISSING);
-    };
+    attribute_row(source, target, attribute).ok_or(MISSING)?;
     Ok(to_target(
         target,
         Touch {

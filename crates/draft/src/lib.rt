@@ -37,6 +37,11 @@ pub const BLANK_ROW: PropertyRow = PropertyRow {
     next: 0,
 };
 
+const TOO_LONG: Refusal = Refusal {
+    reason: Reason::FormTooLong,
+    place: 0,
+};
+
 // Memory that a call works in, and leaves all zero. Within a call it is taken apart: one part is lent while the other is
 // written.
 pub struct Work<'a> {
@@ -128,13 +133,7 @@ fn begin_within(
     ensures form { Front (begun (memory bytes.old rows.now) room primary) bytes.new }
 {
     enough(bytes, rows, room)?;
-    let Some(n) = fill_blank(&mut bytes[0..room], primary) else {
-        return Err(Refusal {
-            reason: Reason::FormTooLong,
-            place: 0,
-        });
-    };
-    Ok(n)
+    fill_blank(&mut bytes[0..room], primary).ok_or(TOO_LONG)
 }
 
 // The first `n` of the bytes, and zeros behind them.
@@ -178,20 +177,14 @@ impl<'a> Draft<'a> {
         ensures bytes { bytes.new ≡ replicate (length bytes.old) 0 }
         ensures rows { rows.new ≡ replicate (length rows.old) blank_row }
     {
-        match res {
-            Ok(n) => {
-                store(self.area, bytes, n);
-                self.size = n;
-                bytes.fill(0);
-                clear(rows);
-                Ok(())
-            }
-            Err(refusal) => {
-                bytes.fill(0);
-                clear(rows);
-                Err(refusal)
-            }
+        if let Ok(n) = res {
+            store(self.area, bytes, n);
+            self.size = n;
         }
+        bytes.fill(0);
+        clear(rows);
+        res?;
+        Ok(())
     }
 
     // The form of a message of nothing but its primary number.

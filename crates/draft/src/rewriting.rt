@@ -18,6 +18,7 @@ ghost use Rattle.draft.specs.Checks.{edit_of, put_by, Checked};
 use crate::checking;
 use crate::edits::Edit;
 use crate::opening::open;
+use crate::TOO_LONG;
 use amend::{Amendment, amend};
 use index::PropertyRow;
 use pen::Pen;
@@ -77,13 +78,7 @@ fn rewrite<S: Source>(
 {
     let most = room.min(SOURCE_LIMIT);
     let mut input = Held::new(put)?;
-    let Some(n) = fill(source, &mut input, amendment, rows, &mut bytes[0..most]) else {
-        return Err(Refusal {
-            reason: Reason::FormTooLong,
-            place: 0,
-        });
-    };
-    Ok(n)
+    fill(source, &mut input, amendment, rows, &mut bytes[0..most]).ok_or(TOO_LONG)
 }
 
 // Writes the form of an edited draft within as many of the work bytes as the area has.

@@ -72,6 +72,7 @@ fn print_frames<S: Source, W: Write>(source: &mut S, out: &mut W) -> io::Result<
         return writeln!(out, "{refusal}");
     }
     let mut at = Cursor::FIRST;
+    // Counted by hand: the frames are no iterator, since reading one takes the source as `&mut`.
     let mut count: usize = 0;
     loop {
         match next_judged(source, at) {

@@ -77,35 +77,6 @@ fn print_rendering<S: Source, W: Write>(
     )
 }
 
-fn print_number<S: Source, W: Write>(
-    out: &mut W,
-    source: &mut S,
-    rule: Rule,
-    place: usize,
-    size: usize,
-) -> io::Result<()> {
-    match rule {
-        Rule::Priority => {
-            let importance = importance_at(source, place, size)
-                .unwrap_or(None)
-                .unwrap_or(0);
-            write!(out, "importance {importance}")
-        }
-        Rule::YesNo => {
-            let answer = truth_at(source, place, size)
-                .unwrap_or(None)
-                .unwrap_or(false);
-            write!(out, "{}", if answer { "yes" } else { "no" })
-        }
-        _ => {
-            let page = code_page_at(source, place, size)
-                .unwrap_or(None)
-                .unwrap_or(0);
-            write!(out, "code page {page}")
-        }
-    }
-}
-
 // What the `size` bytes from `place` on mean under a rule that admits them.
 pub fn print_meaning<S: Source, W: Write>(
     out: &mut W,
@@ -125,9 +96,18 @@ pub fn print_meaning<S: Source, W: Write>(
             Ok(Some(status)) => print_status(out, status),
             _ => Ok(()),
         },
-        Rule::Priority | Rule::YesNo | Rule::CodePage => print_number(
-            out, source, rule, place, size,
-        ),
+        Rule::Priority => match importance_at(source, place, size) {
+            Ok(Some(importance)) => write!(out, "importance {importance}"),
+            _ => Ok(()),
+        },
+        Rule::YesNo => match truth_at(source, place, size) {
+            Ok(Some(answer)) => write!(out, "{}", if answer { "yes" } else { "no" }),
+            _ => Ok(()),
+        },
+        Rule::CodePage => match code_page_at(source, place, size) {
+            Ok(Some(page)) => write!(out, "code page {page}"),
+            _ => Ok(()),
+        },
         Rule::Rendering => print_rendering(out, source, place),
         _ => print_hex(out, source, place, size),
     }

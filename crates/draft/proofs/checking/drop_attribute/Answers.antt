@@ -5,7 +5,7 @@ use Rattle.source.specs.Content.{meaning}
 use Rattle.editing.specs.Amendments as spec
 use Rattle.editing.specs.Targets.{may_drop}
 use Rattle.lookup.specs.Finding.{message_in}
-use Rattle.draft.proofs.Ends.{attribute_named, target_got, held_at, drop_no_target, drop_unnamed, drop_absent, drop_changed}
+use Rattle.draft.proofs.Ends.{attribute_named, target_got, ok_or_got, ok_or_lost, held_at, drop_no_target, drop_unnamed, drop_absent, drop_changed}
 use Rattle.draft.proofs.Puts.{plain_dropped}
 use Rattle.draft.proofs.checking.drop_attribute.Goals as goal
 
@@ -31,8 +31,8 @@ returns g c =
     let is = c.in_ok-attribute.ensures in
     let a = c.in_ok-attribute.attribute in
     let n = attribute_named c.args.target c.args.id may_drop a is in
-    let r = c.in-Some.ensures in
-    let (k, q, s) = r.value (plain_dropped c.args.target c.args.id a n) in
+    let r = c.attribute_row.ensures in
+    let (k, q, s) = rw (ok_or_got _ _ _ c.in_ok-ok_or.ensures.value) at r.value (plain_dropped c.args.target c.args.id a n) in
     record {
       same = r.same ∙ t.same;
       checks = (
@@ -43,17 +43,19 @@ returns g c =
       );
     }
 
-pub returns-in_default : goal.returns-in_default
-returns-in_default g c =
+pub returns-in_err-ok_or : goal.returns-in_err-ok_or
+returns-in_err-ok_or g c =
     let t = c.in_ok-target_there.ensures in
     let m = message_in (meaning (g.S.Source.content c.args.source.now)) in
     let (h, there) = target_got m c.args.target _ t.value in
     let is = c.in_ok-attribute.ensures in
     let a = c.in_ok-attribute.attribute in
     let n = attribute_named c.args.target c.args.id may_drop a is in
-    let r = c.in_default.ensures in
-    let q = r.value (plain_dropped c.args.target c.args.id a n) in
-    record {
+    let r = c.attribute_row.ensures in
+    let p = err_from_is_err_and c.from_residual-in_err-ok_or.result c.from_residual-in_err-ok_or.ensures.1 in
+    let (o, e) = ok_or_lost _ _ _ c.in_err-ok_or.ensures.value in
+    let q = rw o at r.value (plain_dropped c.args.target c.args.id a n) in
+    rw (p.1, p.2, e) (record {
       same = r.same ∙ t.same;
       checks = drop_absent m c.args.target c.args.id h there a is (held_at m c.args.target h c.args.id a _ there n (ap (λ x. contents_held (holding (message_in (meaning x)) c.args.target) a.id) (sym t.same) ∙ q));
-    }
+    })
