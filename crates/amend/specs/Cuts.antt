@@ -4,8 +4,8 @@ use Rattle.source.specs.Bytes.{le}
 use Rattle.index.specs.Rows.{position}
 use Rattle.index.specs.declared.keys.PropertyKey.{PropertyKey}
 use Rattle.index.specs.declared.properties.PropertyRow.{PropertyRow}
-use Rattle.property.specs.Indexing.{same_row, Carried}
-use Rattle.property.specs.Lists.{Property, list_limit, indexed}
+use Rattle.property.specs.Indexing.{same_row}
+use Rattle.property.specs.Lists.{list_limit}
 use Rattle.property.specs.Names.{first_named}
 use Rattle.listform.specs.Forms.{rows_form, number_behind, RowsFit}
 use Rattle.amend.specs.declared.changes.Listing.{Listing}
@@ -51,10 +51,3 @@ cut_form xs ys rows c =
     ++ (rows_form xs first_named (take c.front rows)
     ++ (rows_form ys (number_behind first_named (take c.front rows)) (put_rows c.put)
     ++ rows_form xs (number_behind (number_behind first_named (take c.front rows)) (put_rows c.put)) (drop c.back rows)))
-
--- Rows that carry the index of a list that was read in xs.
-pub record ListIndexed (xs : List ℕ) (rows : List PropertyRow) (ps : List Property) : Type 0 where
-  pub end : ℕ
-  pub within : end ≤ length xs
-  pub carried : Carried xs end rows (indexed ps)
-  pub few : length rows ≤ list_limit

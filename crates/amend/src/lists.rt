@@ -1,5 +1,5 @@
 // The frame of a list of properties with one of them put or dropped; an empty list has none.
-ghost use Rattle.std.specs.Prelude.{◌≡◌, ◌^◌, ◌<◌, ◌≤◌, [], length, take};
+ghost use Rattle.std.specs.Prelude.{◌≡◌, ◌^◌, ◌<◌, ◌≤◌, [], length};
 ghost use Rattle.std.specs.List.{flat_map, AllByRecursion};
 ghost use Rattle.source.specs.Content.{meaning};
 ghost use Rattle.pen.specs.Pen.{Wrote};
@@ -11,40 +11,14 @@ ghost use Rattle.form.specs.Holdings.{Natured, told_in};
 ghost use Rattle.form.specs.Targets.{Standing};
 ghost use Rattle.editing.specs.Amendments as spec;
 ghost use Rattle.amend.specs.Changes.{ListingMeans};
-ghost use Rattle.amend.specs.Cuts.{ListIndexed};
 
 use crate::changes::Listing;
 use crate::cuts::{cut_count, cut_of, write_cut};
 use attribute::Attribute;
-use form::{pen_close, pen_open, row_under};
+use form::{index_list, pen_close, pen_open};
 use index::{AttributeRow, PropertyRow};
 use pen::Pen;
-use property::rows as rows_at;
 use source::Source;
-
-// Indexes the list under an attribute's id, and says how many rows it has: none where there is no frame.
-fn index_list<S: Source>(
-    source: &mut S,
-    rows: &[AttributeRow],
-    attribute: Attribute,
-    lent: &mut [PropertyRow],
-) -> usize
-    requires room { list_limit ≤ length lent.old }
-    requires sound { AllByRecursion (Standing (meaning (S.Source.content source.old))) rows.now }
-    requires listed { Natured properties attribute }
-    ensures same { S.Source.content source.new ≡ S.Source.content source.old }
-    ensures within { result ≤ length lent.new }
-    ensures value { ListIndexed (meaning (S.Source.content source.old)) (take result lent.new)
-        (or_default (told_in as_list attribute.id (meaning (S.Source.content source.old)) rows.now) []) }
-{
-    let _total = source.len();
-    let Some(row) = row_under(rows, attribute.id) else {
-        return 0;
-    };
-    rows_at(source, row.place, row.place + row.size, lent)
-        .unwrap()
-        .count
-}
 
 // The frame of the changed list of properties under an attribute's id.
 pub fn write_changed_properties<S: Source, T: Source>(

@@ -4,6 +4,7 @@ pub mod Found
 pub mod Framings
 pub mod Gathers
 pub mod Holds
+pub mod Indices
 pub mod Natures
 pub mod Normals
 pub mod Pages

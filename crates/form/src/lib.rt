@@ -17,6 +17,7 @@ mod attachments;
 mod attributes;
 mod framing;
 mod fronts;
+mod indexing;
 mod lists;
 mod messages;
 mod row_list;
@@ -30,6 +31,7 @@ pub use attachments::{
 pub use attributes::{write_attribute, write_attributes, write_row};
 pub use framing::{pen_close, pen_open};
 pub use fronts::{CODE_PAGE, write_front, write_page};
+pub use indexing::index_list;
 pub use lists::{write_properties, write_recipients};
 pub use messages::{MESSAGE_PROPERTIES, message_table, write_message};
 pub use row_list::{Rows, row_under};

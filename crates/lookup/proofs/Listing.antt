@@ -1,9 +1,8 @@
 -- Rows that carry the properties of a list.
-use Rattle.std.proofs.Common.{◌≡◌, ℕ, zero, suc, ◌+◌, ◌<◌, ◌≤◌, min, Bool, true, false, cond, List, [], ◌∷◌, map, length, take, Some, None, Ok, Err, Option, sym, refl, ap, ◌∙◌, inl, inr, one-add, arith}
+use Rattle.std.proofs.Common.{◌≡◌, ℕ, zero, suc, ◌+◌, ◌<◌, ◌≤◌, Bool, true, false, cond, List, [], ◌∷◌, map, length, take, Some, None, Ok, Option, sym, refl, ap, ◌∙◌, inl, inr, one-add, arith}
 use Rattle.std.proofs.lemmas.List.{length-take-le}
 use Rattle.std.proofs.lemmas.Bool.{cases_Bool}
-use Rattle.source.specs.declared.refusals.Refusal.{Refusal}
-use Rattle.source.proofs.Outcomes.{err_not_ok, ok_same}
+use Rattle.source.proofs.Outcomes.{ok_same}
 use Rattle.index.specs.Keys.{key_of, same_key}
 use Rattle.index.specs.Rows.{has, before, position}
 use Rattle.index.specs.declared.properties.PropertyRow.{PropertyRow}
@@ -11,10 +10,12 @@ use Rattle.property.specs.declared.indexing.Listed.{Listed}
 use Rattle.property.specs.Fields.{At, at, data_end}
 use Rattle.property.specs.Indexing.{same_row, Carried, ListedBy, listed}
 use Rattle.property.specs.Lists.{Property, list_at, list_limit, recipient_table, indexed}
-use Rattle.property.proofs.Carrying.{carries_key, listed_room}
+use Rattle.property.proofs.Carrying.{carries_key}
 use Rattle.message.specs.Sameness.{nth, row_holding}
 use Rattle.listform.specs.Forms.{number_there}
 use Rattle.listform.proofs.ListForms.{table_in}
+use Rattle.form.specs.Indices.{ListIndexed}
+use Rattle.form.proofs.Indices.{indexed_here}
 use Rattle.lookup.specs.Listing.{Carrying, CarriesAny, CarriesList, Reaches, KeyFound}
 use Rattle.lookup.proofs.Reaching.{nth_drop, reach_first}
 
@@ -24,31 +25,25 @@ carried_length xs end [] (p ∷ ps) c = absurd c
 carried_length xs end (r ∷ rs) [] c = absurd c
 carried_length xs end (r ∷ rs) (p ∷ ps) c = ap suc (carried_length xs end rs ps c.1)
 
-pub carrying_none : (xs : List ℕ) (rows : List PropertyRow) → Carrying xs rows 0 []
-carrying_none xs rows = record { end = 0; within = omega arith; room = omega arith; counted = refl; carried = tt }
+-- The rows of an index, one for each property.
+pub carrying_indexed : (xs : List ℕ) (rows : List PropertyRow) (n : ℕ) (ps : List Property) → n ≤ length rows → ListIndexed xs (take n rows) ps
+    → Carrying xs rows n (indexed ps)
+carrying_indexed xs rows n ps fits i = record {
+  end = i.end;
+  within = i.within;
+  room = fits;
+  counted = sym (length-take-le n rows fits) ∙ carried_length xs i.end (take n rows) (indexed ps) i.carried;
+  carried = i.carried;
+}
 
 -- The list that was read at a place.
-module _ (xs : List ℕ) (end place room : ℕ) (l : end ≤ length xs) (m : list_limit ≤ room) where
-  listed_is : listed xs (data_end xs end) place room ≡ list_at xs end place
-  listed_is = let e : min end (length xs) ≡ end = omega arith in rw e (listed_room xs end place room m)
-
-  pub carrying_list : (a : At (List Property)) → list_at xs end place ≡ Ok a → (after : List PropertyRow) (r : Listed)
-      → ListedBy xs (data_end xs end) (listed xs (data_end xs end) place room) after (Ok r) → Carrying xs after r.count (indexed a.what)
-  carrying_list a is after r (ps, read, fits, carried) =
-      let e : min end (length xs) ≡ end = omega arith in
-      let same : at ps r.next ≡ a = ok_same _ _ (sym read ∙ listed_is ∙ is) in
-      let what : ps ≡ a.what = ap (λ (x : At (List Property)). x.what) same in
-      let k : Carried xs end (take r.count after) (indexed a.what) = rw (e, what) at carried in
-      record {
-        end = end;
-        within = l;
-        room = fits;
-        counted = sym (length-take-le r.count after fits) ∙ carried_length xs end (take r.count after) (indexed a.what) k;
-        carried = k;
-      }
-
-  pub list_refused : (a : At (List Property)) → list_at xs end place ≡ Ok a → (e : Refusal) → listed xs (data_end xs end) place room ≡ Err e → ⊥
-  list_refused a is e h = err_not_ok (sym h ∙ listed_is ∙ is)
+pub carrying_list : (xs : List ℕ) (end place room : ℕ) → end ≤ length xs → list_limit ≤ room → (a : At (List Property)) → list_at xs end place ≡ Ok a
+    → (after : List PropertyRow) (r : Listed) → ListedBy xs (data_end xs end) (listed xs (data_end xs end) place room) after (Ok r)
+    → Carrying xs after r.count (indexed a.what)
+carrying_list xs end place room l m a is after r h =
+    let (ps, read, i, fits) = indexed_here xs end place room l m after r h in
+    let what : ps ≡ a.what = ap (λ (x : At (List Property)). x.what) (ok_same _ _ (sym read ∙ is)) in
+    rw (← what) (carrying_indexed xs after r.count ps fits i)
 
 -- The list that a walk over a table has come to.
 pub list_there : (xs : List ℕ) (base end : ℕ) (ts : List (List Property)) → recipient_table xs base end ≡ Ok ts → (k start : ℕ) → k < length ts

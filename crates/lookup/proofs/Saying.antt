@@ -22,7 +22,7 @@ use Rattle.form.proofs.Found.{TableHeld, row_found, row_lost, table_held}
 use Rattle.form.proofs.Tells.{recipients_known, own_all, contents_same, table_same, list_same}
 use Rattle.form.proofs.Beginnings.{head, rendering_level}
 use Rattle.form.proofs.Forms.{own_is, own_level, page_told}
-use Rattle.lookup.specs.Finding.{list_in, table_in, Says, SaysMessage, ContentsStand, NormalStand}
+use Rattle.lookup.specs.Finding.{table_in, Says, SaysMessage, ContentsStand, NormalStand}
 
 module _ (xs : List ℕ) where
   pub says_message : (rows : List AttributeRow) (q : ℕ) (t : Stage) → Readable xs 6 Version → Taken xs 6 Version rows q t → StaysWritten xs 6 Version rows q t → SaysMessage xs rows
@@ -69,12 +69,6 @@ module _ (xs : List ℕ) where
 
     pub table_lost : None ≡ row_under recipients_id rows → table_in xs rows ≡ []
     table_lost e = ap (λ o. or_default (told_by as_table o) []) (row_lost xs recipients_id rows e)
-
-    pub list_told : (i : ℕ) (ps : List Property) → told_in as_list i xs rows ≡ Some ps → list_in i xs rows ≡ ps
-    list_told i ps e = ap (λ o. or_default o []) e
-
-    pub list_lost : (i : ℕ) → None ≡ row_under i rows → list_in i xs rows ≡ []
-    list_lost i e = ap (λ o. or_default (told_by as_list o) []) (row_lost xs i rows e)
 
   -- The row under an attribute's id is where its contents stand.
   pub says_contents : (rows : List AttributeRow) (i : ℕ) (h : Holding) → Says xs rows i h → (a : Attribute) → Plain a → (r : Option AttributeRow)

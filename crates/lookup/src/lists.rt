@@ -5,47 +5,21 @@ ghost use Rattle.source.specs.Content.{meaning};
 ghost use Rattle.frame.specs.declared.stages.Stage.TheVariants.{Version};
 ghost use Rattle.index.specs.Keys.{key_of};
 ghost use Rattle.property.specs.Indexing.{Carried};
-ghost use Rattle.property.specs.Lists.{Property as Read, list_limit, list_at, indexed};
-ghost use Rattle.stream.specs.Reading.{properties as listing};
+ghost use Rattle.property.specs.Lists.{Property as Read, list_limit, list_at};
 ghost use Rattle.message.specs.Sameness.{nth, row_holding, holding};
 ghost use Rattle.form.specs.Targets.{Readable, Standing};
-ghost use Rattle.form.specs.Holdings.{Natured};
-ghost use Rattle.lookup.specs.Finding.{message_in, list_in, table_in};
-ghost use Rattle.lookup.specs.Listing.{Carrying, CarriesAny, CarriesList, Reaches, KeyFound};
+ghost use Rattle.lookup.specs.Finding.{message_in, table_in};
+ghost use Rattle.lookup.specs.Listing.{CarriesAny, CarriesList, Reaches, KeyFound};
 
 use crate::COUNT_SIZE;
 use crate::targets::{attachment_rows, message_rows};
-use attribute::{ATT_RECIPIENTS, Attribute};
-use form::{ATTACHMENT_PROPERTIES, MESSAGE_PROPERTIES, Rows};
+use attribute::ATT_RECIPIENTS;
+use form::{ATTACHMENT_PROPERTIES, MESSAGE_PROPERTIES, Rows, index_list};
 use index::{PropertyKey, PropertyRow, find};
 use message::Target;
-use property::{list_end, rows as index_list};
+use property::{list_end, rows as rows_at};
 use scan::Number;
 use source::Source;
-
-// Indexes the list of properties under an attribute's id, and says how many there are.
-fn list_under<S: Source>(
-    source: &mut S,
-    rows: &Rows,
-    attribute: Attribute,
-    lent: &mut [PropertyRow],
-) -> usize
-    requires room { list_limit ≤ length lent.old }
-    requires sound { AllByRecursion (Standing (meaning (S.Source.content source.old))) rows.now }
-    requires listed { Natured listing attribute }
-    ensures same { S.Source.content source.new ≡ S.Source.content source.old }
-    ensures value { Carrying (meaning (S.Source.content source.old)) lent.new result
-        (indexed (list_in attribute.id (meaning (S.Source.content source.old)) rows.now)) }
-{
-    let _total = source.len();
-    let Some(row) = rows.under(attribute.id) else {
-        return 0;
-    };
-    match index_list(source, row.place, row.place + row.size, lent) {
-        Ok(listed) => listed.count,
-        Err(_) => 0,
-    }
-}
 
 // Where the list with a number begins, of lists from `place` on.
 fn list_start<S: Source>(source: &mut S, place: usize, end: usize, number: usize) -> usize
@@ -84,7 +58,7 @@ fn row_list<S: Source>(
     }
     let end = row.place + row.size;
     let start = list_start(source, row.place + COUNT_SIZE, end, number);
-    let listed = index_list(source, start, end, lent).ok()?;
+    let listed = rows_at(source, start, end, lent).ok()?;
     Some(listed.count)
 }
 
@@ -103,7 +77,7 @@ pub fn properties<S: Source>(
     match target {
         Target::Message => {
             let rows = message_rows(source);
-            Some(list_under(source, &rows, MESSAGE_PROPERTIES, lent))
+            Some(index_list(source, rows.as_slice(), MESSAGE_PROPERTIES, lent))
         }
         Target::Row(number) => {
             let rows = message_rows(source);
@@ -111,7 +85,7 @@ pub fn properties<S: Source>(
         }
         Target::Attachment(number) => {
             let rows = attachment_rows(source, number)?;
-            Some(list_under(source, &rows, ATTACHMENT_PROPERTIES, lent))
+            Some(index_list(source, rows.as_slice(), ATTACHMENT_PROPERTIES, lent))
         }
     }
 }

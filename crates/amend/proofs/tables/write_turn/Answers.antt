@@ -1,12 +1,14 @@
 use Rattle.std.proofs.Common.{length}
 use Rattle.source.specs.Content.{meaning}
-use Rattle.amend.proofs.Indices.{indexed_here, indexed_lost, indexed_cut}
+use Rattle.listform.proofs.ListForms.{list_refused}
+use Rattle.form.proofs.Indices.{indexed_here}
+use Rattle.amend.proofs.Indices.{indexed_cut}
 use Rattle.amend.proofs.Turns.{turn_some, turn_writes, turn_leaves}
 use Rattle.amend.proofs.tables.write_turn.Goals as goal
 
 pub returns-in_default-clause-value : goal.returns-in_default-clause-value
 returns-in_default-clause-value g c = λ t m a f.
-    absurd (indexed_lost (meaning (g.S.Source.content c.args.source.now)) c.args.end c.args.place (length c.args.lent.now) c.requires.within c.requires.room c.rows.new.lent _ c.in_default.ensures.reads a f)
+    absurd (list_refused (meaning (g.S.Source.content c.args.source.now)) c.args.end c.args.place (length c.args.lent.now) c.requires.within c.requires.room c.rows.new.lent _ c.in_default.ensures.reads a f)
 
 pub write_cut-requires : goal.write_cut-requires
 write_cut-requires g c =

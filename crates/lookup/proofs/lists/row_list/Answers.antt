@@ -1,10 +1,11 @@
 use Rattle.std.proofs.Common.{◌<◌, ◌≤◌, length, ap, ◌∙◌, arith}
 use Rattle.source.specs.Content.{meaning}
 use Rattle.message.specs.Sameness.{nth}
+use Rattle.listform.proofs.ListForms.{list_refused}
 use Rattle.lookup.proofs.Asked.{ok_is, err_is, some_got, none_lost}
 use Rattle.lookup.proofs.Passing.{nth_past}
 use Rattle.lookup.proofs.Saying.{recipients_held, table_told, table_lost}
-use Rattle.lookup.proofs.Listing.{list_there, carrying_list, list_refused}
+use Rattle.lookup.proofs.Listing.{list_there, carrying_list}
 use Rattle.lookup.proofs.lists.row_list.Goals as goal
 
 pub returns-in_err-row-clause-value : goal.returns-in_err-row-clause-value
@@ -65,4 +66,4 @@ returns-in_err-listed-clause-value g c =
     let n : c.args.number < length ts = omega (arith, (some_got _ xs _ _ _ _ c.in_ok-count.ensures.value k.value).1, h.counted, c.if-number-count.false) in
     let (a, is, _) = list_there xs _ _ ts h.reads c.args.number _ n (rw k.same at s.value) in
     let (x, lost) = err_is _ c.in_err-listed.ensures.value in
-    absurd (list_refused xs _ _ _ h.within c.requires.room a is x (rw (lost, s.same ∙ k.same) at q.reads))
+    absurd (list_refused xs _ _ _ h.within c.requires.room c.rows.new.lent x (rw (lost, s.same ∙ k.same) at q.reads) a is)

@@ -5,8 +5,8 @@ use Rattle.property.specs.Lists.{Property}
 use Rattle.source.proofs.Outcomes.{ok_same}
 use Rattle.listform.proofs.ListForms.{list_in}
 use Rattle.form.proofs.Found.{list_held}
-use Rattle.amend.proofs.Indices.{indexed_here, indexed_got, own_held, own_none, none_indexed}
-use Rattle.amend.proofs.lists.index_list.Goals as goal
+use Rattle.form.proofs.Indices.{indexed_here, indexed_got, own_held, own_none, none_indexed}
+use Rattle.form.proofs.indexing.index_list.Goals as goal
 
 pub returns-in_default-clause-value : goal.returns-in_default-clause-value
 returns-in_default-clause-value g c =
