@@ -1,9 +1,11 @@
 -- Texts that begin with a prefix, and the attribute value of a pair by its number.
-use Rattle.std.proofs.Common.{◌≡◌, ℕ, zero, suc, ◌<◌, false, ◌⊎◌, List, [], ◌∷◌, ◌++◌, map, length, get_or, sym, refl, ap, ◌∙◌, arith, rules}
+use Rattle.std.proofs.Common.{◌≡◌, ℕ, zero, suc, ◌+◌, ◌<◌, false, ◌⊎◌, List, [], ◌∷◌, ◌++◌, map, length, get_or, sym, refl, ap, ◌∙◌, arith, rules}
 use Rattle.std.proofs.lemmas.Slice.Eq.{compares_Decides}
 use Rattle.std.proofs.lemmas.Bool.{eq-eqb, false_from_ne_true}
 use Rattle.source.specs.Bytes.{same_bytes}
-use Rattle.contents.specs.Classes.{class_text}
+use Rattle.std.specs.List.{position as first_that}
+use Rattle.scan.specs.Texts.{also}
+use Rattle.contents.specs.Classes.{class_text, means_pair, pair_from}
 use Rattle.contents.specs.Spelling.{spelled}
 use Rattle.contents.specs.declared.classes.Pair.{Pair}
 
@@ -28,3 +30,9 @@ text_none [] k h = refl
 text_none (p ∷ ps) zero h = refl
 text_none (p ∷ ps) (suc zero) h = absurd (grind arith)
 text_none (p ∷ ps) (suc (suc k)) h = text_none ps (suc k) (grind arith)
+
+-- The number of a pair, by the place at which the library finds it.
+pub number_from : (t : List ℕ) (table : List Pair) (k : ℕ)
+    → pair_from t (map spelled table) k ≡ also (first_that (λ p. means_pair t (spelled p)) table) (λ n. n + k)
+number_from t [] k = refl
+number_from t (p ∷ ps) k = grind (arith, number_from t ps (k + 1))

@@ -1,5 +1,6 @@
 // Message classes.
-ghost use Rattle.std.specs.Prelude.{◌≡◌, ◌≤◌, ◌++◌, map};
+ghost use Rattle.std.specs.Prelude.{◌≡◌, ◌<◌, ◌≤◌, ◌++◌, length, map, IfSome};
+ghost use Rattle.std.specs.List.{position as first_that};
 ghost use Rattle.source.specs.Bytes.{same_bytes};
 ghost use Rattle.source.specs.Content.{meaning};
 ghost use Rattle.scan.specs.Scans.{asked};
@@ -70,17 +71,22 @@ fn spells(text: &[u8], pair: &Pair) -> bool
         || is_joined(text, b"Microsoft Mail v3.0", pair.attribute)
 }
 
+// The search in the library's words; `number_in` says it in those of pairs.
+fn place_in(table: &[Pair], text: &[u8]) -> Option<usize>
+    ensures value { result ≡ first_that (λ x. means_pair text.now (spelled x)) table.now }
+    ensures bound { IfSome result (λ k. k < length table.now) }
+{
+    table.iter().position(|pair| spells(text, pair))
+}
+
 // Pairs go by number, which is what programs print and the definitions count by.
 // The number of the first pair of `table` that a text means, from 1.
+#[tactic(auto, using(crate::proofs::Spellings::number_from))]
 fn number_in(table: &[Pair], text: &[u8]) -> Option<usize>
     ensures { result ≡ pair_from text.now (map spelled table.now) 1 }
 {
-    for (k, pair) in table.iter().enumerate() {
-        if spells(text, pair) {
-            return Some(k + 1);
-        }
-    }
-    None
+    let place = place_in(table, text)?;
+    Some(place + 1)
 }
 
 // The pair that a text means, 1 to 8, if it means one.

@@ -115,7 +115,7 @@ fn right_date(bytes: Option<[u8; 14]>) -> Option<Date>
         minute: word_of(&bytes, 4),
         second: word_of(&bytes, 5),
     };
-    if date.is_right() { Some(date) } else { None }
+    date.is_right().then_some(date)
 }
 
 // The date that data mean, if they mean one.

@@ -1,9 +1,8 @@
 // Renderings of attachments, and the version of a stream.
-ghost use Rattle.std.specs.Prelude.{◌≡◌, ◌&&◌, ◌||◌, is_some, ◌==◌, nat_le};
+ghost use Rattle.std.specs.Prelude.{◌≡◌, ◌&&◌, ◌||◌, ◌==◌, nat_le};
 ghost use Rattle.source.specs.Content.{meaning};
 ghost use Rattle.scan.specs.Scans.{asked};
-ghost use Rattle.contents.specs.Contents.{right_rendering, checked_rendering, is_rendering, is_version};
-ghost use Rattle.contents.specs.Options.{then};
+ghost use Rattle.contents.specs.Contents.{right_rendering, is_rendering, is_version};
 
 use crate::fixed::exactly;
 use source::{Refusal, Source};
@@ -23,15 +22,6 @@ fn has_right_parts(bytes: &[u8; 14]) -> bool
     are_right(kind, flags)
 }
 
-fn is_right(bytes: Option<[u8; 14]>) -> bool
-    ensures { result ≡ is_some (then bytes checked_rendering) }
-{
-    match bytes {
-        Some(bytes) => has_right_parts(&bytes),
-        None => false,
-    }
-}
-
 // Whether data are a rendering: of type 1 or 2, with flags of 0 or 1.
 #[tactic(auto, unfolding(scan::specs::Scans::asked))]
 pub(crate) fn is_rendering<S: Source>(
@@ -42,8 +32,10 @@ pub(crate) fn is_rendering<S: Source>(
     ensures same { S.Source.content source.new ≡ S.Source.content source.old }
     ensures value { result ≡ asked is_rendering (meaning (S.Source.content source.old)) place size }
 {
-    let bytes = exactly(source, place, size)?;
-    Ok(is_right(bytes))
+    let Some(bytes) = exactly(source, place, size)? else {
+        return Ok(false);
+    };
+    Ok(has_right_parts(&bytes))
 }
 
 // Whether data are the one version, 00 00 01 00.

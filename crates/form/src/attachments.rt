@@ -11,6 +11,7 @@ ghost use Rattle.form.specs.Wholes.{Rendered, Next, all_attached};
 
 use crate::attributes::{write_attribute, write_attributes};
 use crate::lists::write_properties;
+use crate::messages::MESSAGE_END;
 use crate::targets::gather;
 use attribute::{ATT_ATTACHMENT_PROPERTIES, ATT_RENDERING, Attribute, Rule, all_attributes};
 use frame::Cursor;
@@ -31,14 +32,12 @@ pub const ATTACHMENT_PROPERTIES: Attribute = Attribute {
 };
 
 // Those of an attachment stand in the table behind those of a message.
-const ATTACHMENT_START: usize = 18;
-
 const ATTACHMENT_END: usize = 24;
 
 pub fn attachment_table() -> &'static [Attribute]
     ensures { result.now ≡ attachment_attributes }
 {
-    &all_attributes()[ATTACHMENT_START..ATTACHMENT_END]
+    &all_attributes()[MESSAGE_END..ATTACHMENT_END]
 }
 
 // An attachment's rendering, attributes and properties.

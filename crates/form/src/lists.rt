@@ -19,15 +19,13 @@ use scan::Number;
 use source::Source;
 
 // Whether the count at `place` is 0.
+#[tactic(auto, unfolding(scan::specs::Scans::asked))]
 fn is_empty<S: Source>(source: &mut S, place: usize) -> bool
     ensures same { S.Source.content source.new ≡ S.Source.content source.old }
     ensures value { place + 4 ≤ length (meaning (S.Source.content source.old))
         → result ≡ (val (part (meaning (S.Source.content source.old)) place 4) == 0) }
 {
-    match u32::at(source, place) {
-        Ok(count) => count == 0,
-        Err(_) => true,
-    }
+    u32::at(source, place).unwrap_or(0) == 0
 }
 
 // The frame of the list of properties under an attribute's id, where there is one that is not empty.

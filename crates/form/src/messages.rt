@@ -22,7 +22,7 @@ pub const MESSAGE_PROPERTIES: Attribute = Attribute {
 };
 
 // Those of a message stand first in the table.
-const MESSAGE_END: usize = 18;
+pub(crate) const MESSAGE_END: usize = 18;
 
 pub fn message_table() -> &'static [Attribute]
     ensures { result.now ≡ message_attributes }

@@ -2,6 +2,7 @@
 ghost use Rattle.std.specs.Prelude.{◌≡◌};
 ghost use Rattle.frame.specs.Stages.{role, next_stage, may_end};
 
+use crate::HEADER_SIZE;
 use attribute::{ATT_CODE_PAGE, ATT_RENDERING, ATT_VERSION, Attribute};
 use source::{Reason, Refusal};
 
@@ -64,7 +65,7 @@ pub struct Cursor {
 impl Cursor {
     // At the first frame, behind the header.
     pub const FIRST: Cursor = Cursor {
-        place: 6,
+        place: HEADER_SIZE,
         stage: Stage::Version,
     };
 }

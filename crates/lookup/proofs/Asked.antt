@@ -7,7 +7,7 @@ use Rattle.source.specs.declared.refusals.Reason.{Reason}
 use Rattle.source.specs.declared.refusals.Refusal.{Refusal}
 use Rattle.source.proofs.Outcomes.{err_not_ok}
 use Rattle.scan.specs.Scans.{asked}
-use Rattle.scan.proofs.Parts.{asked_got, asked_lost, asked_within}
+use Rattle.scan.proofs.Parts.{asked_got, asked_lost}
 
 module _ {A E : Type 0} where
   pub ok_is : (a : A) (r : Result A E) → Some a ≡ result_ok r → r ≡ Ok a
@@ -24,9 +24,6 @@ module _ {A : Type 0} (f : List ℕ → A) (xs : List ℕ) (place size : ℕ) (r
 
   pub none_lost : None ≡ result_ok r → r ≡ asked f xs place size → length xs < place + size
   none_lost e q = let (x, is) = err_is r e in (asked_lost f xs place size x (sym is ∙ q)).0
-
-  pub some_there : (o : Option A) → o ≡ result_ok r → r ≡ asked f xs place size → place + size ≤ length xs → o ≡ Some (f (part xs place size))
-  some_there o e q l = e ∙ ap result_ok (q ∙ asked_within f xs place size l)
 
 pub given_got : {A : Type 0} (o : Option A) (r : Reason) (p : ℕ) (a : A) → Ok a ≡ given o r p → o ≡ Some a
 given_got (Some b) r p a e = let s : a ≡ b = cc in ap Some (sym s)

@@ -1,8 +1,8 @@
 -- The primary number that a row of the code page has.
-use Rattle.std.proofs.Common.{◌≡◌, ℕ, List, Some, None, Ok, Err, Option, unwrap_or, sym, ap, ◌∙◌}
+use Rattle.std.proofs.Common.{◌≡◌, ℕ, List, Some, None, Ok, Option, Result, unwrap_or, sym, ap, ◌∙◌}
+use Rattle.std.specs.Result.{result_unwrap_or}
 use Rattle.std.specs.List.{AllByRecursion}
 use Rattle.source.specs.declared.refusals.Refusal.{Refusal}
-use Rattle.source.proofs.Outcomes.{err_not_ok, ok_same}
 use Rattle.scan.specs.Scans.{asked}
 use Rattle.scan.proofs.Parts.{asked_within}
 use Rattle.attribute.specs.Table.{code_page_id}
@@ -28,11 +28,8 @@ module _ (xs : List ℕ) (rows : List AttributeRow) where
         let (c, f, t, w) = page_held xs rows sound r e in
         asked_within code_page_in xs r.place r.size w ∙ ap Ok (page_means _ c f) ∙ ap (λ n. Ok (Some n)) (sym (ap (λ o. or_default o 0) t))
 
-    pub page_found : (o : Option ℕ) → Ok o ≡ asked code_page_in xs r.place r.size → unwrap_or o 0 ≡ page_in xs rows
-    page_found o q = let s : o ≡ Some (page_in xs rows) = ok_same o _ (q ∙ asked_page) in ap (λ u. unwrap_or u 0) s
-
-    pub page_refused : (x : Refusal) → Err x ≡ asked code_page_in xs r.place r.size → ⊥
-    page_refused x q = err_not_ok (q ∙ asked_page)
+    pub page_found : (x : Result (Option ℕ) Refusal) → x ≡ asked code_page_in xs r.place r.size → unwrap_or (result_unwrap_or x None) 0 ≡ page_in xs rows
+    page_found x q = ap (λ x. unwrap_or (result_unwrap_or x None) 0) (q ∙ asked_page)
 
   pub page_lost : None ≡ row_under code_page_id rows → page_in xs rows ≡ 0
   page_lost e = ap (λ o. or_default (told_by as_primary o) 0) (row_lost xs code_page_id rows e)

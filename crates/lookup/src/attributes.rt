@@ -45,8 +45,6 @@ pub fn primary<S: Source>(source: &mut S) -> u32
     let Some(row) = rows.under(ATT_CODE_PAGE) else {
         return 0;
     };
-    match code_page_at(source, row.place, row.size) {
-        Ok(found) => found.unwrap_or(0),
-        Err(_) => 0,
-    }
+    let page = code_page_at(source, row.place, row.size);
+    page.unwrap_or(None).unwrap_or(0)
 }

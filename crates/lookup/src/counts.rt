@@ -22,8 +22,7 @@ pub fn count_rows<S: Source>(source: &mut S) -> usize
     let Some(row) = rows.under(ATT_RECIPIENTS) else {
         return 0;
     };
-    let count = u32::at(source, row.place).ok();
-    count.unwrap_or(0) as usize
+    u32::at(source, row.place).unwrap_or(0) as usize
 }
 
 // How many attachments it has.
