@@ -89,23 +89,19 @@ fn print_value<S: Source, W: Write>(
     kind: Kind,
     place: usize,
 ) -> io::Result<usize> {
-    match kind {
-        Kind::Fixed(width) => {
+    match kind.width() {
+        Some(width) => {
             print_fixed(out, source, number, width, place)?;
             Ok(place.saturating_add(padded(usize::from(width))))
         }
-        Kind::YesNo => {
-            print_fixed(out, source, number, 2, place)?;
-            Ok(place.saturating_add(4))
-        }
-        _ => print_sized(out, source, kind, place),
+        None => print_sized(out, source, kind, place),
     }
 }
 
 // How many values there are, and where the first stands.
 fn count_at<S: Source>(source: &mut S, shape: Shape, place: usize) -> (u32, usize) {
-    match shape.kind {
-        Kind::Fixed(_) | Kind::YesNo if !shape.several => (1, place),
+    match shape.kind.width() {
+        Some(_) if !shape.several => (1, place),
         _ => (u32::at(source, place).unwrap_or(0), place.saturating_add(4)),
     }
 }

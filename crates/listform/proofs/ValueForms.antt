@@ -52,14 +52,6 @@ pub fixed_filled : (xs : List ℕ) (k : Kind) (w p n : ℕ) → width k ≡ Some
 unfolding fixed_form filled
 fixed_filled xs k w p n e h f = rw (length_normal k w (part xs p w) e (length_part xs p w h), f)
 
-pub no_width : (k : Kind) → ((w : ℕ) → k ≡ Fixed w → ⊥) → (k ≡ YesNo → ⊥) → width k ≡ None
-no_width (Fixed w) f y = absurd (f w refl)
-no_width YesNo f y = absurd (y refl)
-no_width String8 f y = refl
-no_width String16 f y = refl
-no_width Binary f y = refl
-no_width Object f y = refl
-
 -- A kind without a width keeps its bytes.
 sized_plain : (k : Kind) (ys : List ℕ) → width k ≡ None → normal (value k ys) ≡ ys
 sized_plain k ys e = normal_bytes ys k (λ y. let f : ◌≡◌ {A = Option ℕ} (Some 2) None = rw y at e in let z : ◌≡◌ {A = ℕ} 0 1 = cc in omega arith)

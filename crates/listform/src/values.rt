@@ -110,15 +110,14 @@ fn sized_values<S: Source>(source: &mut S, place: usize, pen: &mut Pen<'_>)
 }
 
 // Writes the values at `place`.
-#[tactic(auto, using(crate::proofs::ValueForms::no_width), unfolding(crate::specs::Forms::ValuesFit, crate::specs::Forms::values_form))]
+#[tactic(auto, unfolding(crate::specs::Forms::ValuesFit, crate::specs::Forms::values_form))]
 pub fn write_values<S: Source>(source: &mut S, shape: Shape, place: usize, pen: &mut Pen<'_>)
     requires { (length (meaning (S.Source.content source.old)) ≤ source_limit) × (ValuesFit (meaning (S.Source.content source.old)) (width shape.kind) shape.several place) }
     ensures same { S.Source.content source.new ≡ S.Source.content source.old }
     ensures value { Wrote pen.old (values_form (meaning (S.Source.content source.old)) (width shape.kind) shape.kind shape.several place) pen.new }
 {
-    match shape.kind {
-        Kind::Fixed(size) => fixed_values(source, shape.kind, size, shape.several, place, pen),
-        Kind::YesNo => fixed_values(source, shape.kind, 2, shape.several, place, pen),
-        _ => sized_values(source, place, pen),
+    match shape.kind.width() {
+        Some(size) => fixed_values(source, shape.kind, size, shape.several, place, pen),
+        None => sized_values(source, place, pen),
     }
 }

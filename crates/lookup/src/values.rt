@@ -13,7 +13,7 @@ ghost use Rattle.lookup.specs.Values.{Behind, ValueStands, ValueThere};
 
 use crate::COUNT_SIZE;
 use index::PropertyRow;
-use property::{Kind, padded, shape_of};
+use property::{padded, shape_of};
 use scan::Number;
 use source::Source;
 
@@ -105,9 +105,8 @@ pub fn value_at<S: Source>(source: &mut S, row: &PropertyRow, number: usize) -> 
         → ValueThere (meaning (S.Source.content source.old)) p.type (nth p.values number) result }
 {
     let shape = shape_of(row.number)?;
-    match shape.kind {
-        Kind::Fixed(width) => fixed_at(source, row.values, width, shape.several, number),
-        Kind::YesNo => fixed_at(source, row.values, 2, shape.several, number),
-        _ => sized_at(source, row.values, number),
+    match shape.kind.width() {
+        Some(width) => fixed_at(source, row.values, width, shape.several, number),
+        None => sized_at(source, row.values, number),
     }
 }

@@ -1,6 +1,6 @@
 // The types of properties.
 ghost use Rattle.std.specs.Prelude.{◌≡◌};
-ghost use Rattle.property.specs.Kinds.{single_kind, has_several, shape_of, Lawful};
+ghost use Rattle.property.specs.Kinds.{single_kind, has_several, shape_of, width, Lawful};
 
 // What values are: of a number of bytes each, or each behind its size.
 #[derive(Clone, Copy, PartialEq, Eq, Debug)]
@@ -11,6 +11,19 @@ pub enum Kind {
     String16,
     Binary,
     Object,
+}
+
+impl Kind {
+    // How wide a value is, if values of the kind are of one width; others stand behind their size.
+    pub fn width(self) -> Option<u8>
+        ensures { result ≡ width self }
+    {
+        match self {
+            Kind::Fixed(width) => Some(width),
+            Kind::YesNo => Some(2),
+            _ => None,
+        }
+    }
 }
 
 #[derive(Clone, Copy, PartialEq, Eq, Debug)]

@@ -133,9 +133,8 @@ pub(crate) fn values_at<S: Source>(
     ensures reads { result ≡ behind (values_at (meaning (S.Source.content source.old)) end start shape place) }
     ensures within { IfOk result (λ n. n ≤ end) }
 {
-    match shape.kind {
-        Kind::Fixed(width) => fixed_values(source, end, start, width, shape.several, place),
-        Kind::YesNo => fixed_values(source, end, start, 2, shape.several, place),
-        kind => sized_values(source, end, start, kind, shape.several, place),
+    match shape.kind.width() {
+        Some(width) => fixed_values(source, end, start, width, shape.several, place),
+        None => sized_values(source, end, start, shape.kind, shape.several, place),
     }
 }
