@@ -79,15 +79,7 @@ impl<'a> Pen<'a> {
             self.here = None;
             return;
         };
-        match source.fetch(place, &mut self.out[start..start + size]) {
-            Ok(()) => {
-                self.here = Some(start + size);
-                return;
-            }
-            Err(_) => {
-                self.here = None;
-                return;
-            }
-        }
+        let fetched = source.fetch(place, &mut self.out[start..start + size]);
+        self.here = fetched.is_ok().then_some(start + size);
     }
 }
