@@ -15,10 +15,9 @@ ghost use Rattle.draft.specs.Drafts.{memory, fitted, Front};
 ghost use Rattle.draft.specs.Calls.{state, edited};
 ghost use Rattle.draft.specs.Checks.{edit_of, put_by, Checked};
 
-use crate::checking;
 use crate::edits::Edit;
 use crate::opening::open;
-use crate::TOO_LONG;
+use crate::{TOO_LONG, checking};
 use amend::{Amendment, amend};
 use index::PropertyRow;
 use pen::Pen;
