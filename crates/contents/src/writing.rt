@@ -3,7 +3,7 @@ ghost use Rattle.std.specs.Prelude.{◌≡◌, ◌+◌, ◌≤◌, map, length};
 ghost use Rattle.source.specs.Bytes.{part, Octets};
 ghost use Rattle.source.specs.Content.{meaning};
 ghost use Rattle.attribute.specs.declared.Rule.TheVariants as rules;
-ghost use Rattle.pen.specs.Pen.{Wrote};
+ghost use Rattle.pen.specs.Pen.{Wrote, SameSlice};
 ghost use Rattle.contents.specs.Contents.{normal, date, class, status, truth, code_page};
 ghost use Rattle.contents.specs.Writing.{Written, known, upper};
 
@@ -66,6 +66,7 @@ fn pen_class(pen: &mut Pen<'_>, k: usize)
 fn write_same<S: Source>(source: &mut S, place: usize, size: usize, pen: &mut Pen<'_>)
     ensures same { S.Source.content source.new ≡ S.Source.content source.old }
     ensures octets { Octets (meaning (S.Source.content source.old)) }
+    ensures slice { SameSlice pen.old pen.new }
     ensures value { place + size ≤ length (meaning (S.Source.content source.old))
         → Wrote pen.old (part (meaning (S.Source.content source.old)) place size) pen.new }
 {
@@ -77,6 +78,7 @@ fn write_same<S: Source>(source: &mut S, place: usize, size: usize, pen: &mut Pe
 #[tactic(auto, unfolding(scan::specs::Scans::asked, crate::specs::Contents::admits, crate::specs::Contents::means))]
 fn write_class<S: Source>(source: &mut S, place: usize, size: usize, pen: &mut Pen<'_>)
     ensures same { S.Source.content source.new ≡ S.Source.content source.old }
+    ensures slice { SameSlice pen.old pen.new }
     ensures value { Written rules.Class (meaning (S.Source.content source.old)) place size pen.old pen.new }
 {
     match if_known(class_at(source, place, size)) {
@@ -105,6 +107,7 @@ fn capitalize(bytes: &mut [u8])
 // Writes the digits of a part, where it is there, as capitals.
 fn pen_capitals<S: Source>(source: &mut S, place: usize, size: usize, pen: &mut Pen<'_>)
     ensures same { S.Source.content source.new ≡ S.Source.content source.old }
+    ensures slice { SameSlice pen.old pen.new }
     ensures value { place + size ≤ length (meaning (S.Source.content source.old))
         → Wrote pen.old (map upper (part (meaning (S.Source.content source.old)) place size)) pen.new }
 {
@@ -122,7 +125,7 @@ fn pen_capitals<S: Source>(source: &mut S, place: usize, size: usize, pen: &mut 
     }
 }
 
-// Writes the normal data of the `size` bytes from `place` on, where the rule admits them.
+// Writes the normal data of the `size` bytes from `place` on, where the rule admits them; else the pen is nowhere.
 #[tactic(auto, unfolding(scan::specs::Scans::asked, crate::specs::Contents::admits, crate::specs::Contents::means))]
 pub fn write_normal<S: Source>(
     source: &mut S,
@@ -132,6 +135,7 @@ pub fn write_normal<S: Source>(
     pen: &mut Pen<'_>,
 )
     ensures same { S.Source.content source.new ≡ S.Source.content source.old }
+    ensures slice { SameSlice pen.old pen.new }
     ensures value { Written rule (meaning (S.Source.content source.old)) place size pen.old pen.new }
 {
     // Both arms of each inner match stand there, since an `if let` keeps nothing of what it leaves out.
@@ -142,21 +146,21 @@ pub fn write_normal<S: Source>(
         Rule::Class => write_class(source, place, size, pen),
         Rule::Date => match if_known(date_at(source, place, size)) {
             Some(day) => pen_date(pen, day),
-            None => {}
+            None => pen.here = None,
         },
         Rule::Digits => pen_capitals(source, place, size, pen),
         Rule::Status => match if_known(status_at(source, place, size)) {
             Some(state) => pen_status(pen, state),
-            None => {}
+            None => pen.here = None,
         },
         Rule::YesNo => match if_known(truth_at(source, place, size)) {
             Some(answer) => pen_truth(pen, answer),
-            None => {}
+            None => pen.here = None,
         },
         Rule::CodePage => match if_known(code_page_at(source, place, size)) {
             Some(primary) => pen_code_page(pen, primary),
-            None => {}
+            None => pen.here = None,
         },
-        Rule::Recipients | Rule::Properties => {}
+        Rule::Recipients | Rule::Properties => pen.here = None,
     }
 }

@@ -37,6 +37,27 @@ mod tests {
         }
     }
 
+    // Whether nothing is written for `bytes`, and the pen is nowhere.
+    fn is_lost(rule: Rule, bytes: &[u8]) -> bool {
+        let mut out = [0u8; 64];
+        let Ok(mut source) = Held::new(bytes) else {
+            return false;
+        };
+        let mut pen = Pen::new(&mut out);
+        write_normal(&mut source, rule, 0, bytes.len(), &mut pen);
+        pen.here.is_none()
+    }
+
+    #[test]
+    fn nothing_is_written_for_other_data(rt: HostRuntime) {
+        assert!(rt; is_lost(Rule::Date, b"\0"));
+        assert!(rt; is_lost(Rule::Status, b"\0"));
+        assert!(rt; is_lost(Rule::YesNo, b"\0"));
+        assert!(rt; is_lost(Rule::CodePage, b"\0"));
+        assert!(rt; is_lost(Rule::Recipients, b"\0\0\0\0"));
+        assert!(rt; is_lost(Rule::Properties, b"\0\0\0\0"));
+    }
+
     #[test]
     fn texts(rt: HostRuntime) {
         assert!(rt; accepted(Rule::Text, &[b"\0", b"a\0"]));

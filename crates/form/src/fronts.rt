@@ -3,7 +3,7 @@ ghost use Rattle.std.specs.Prelude.{◌≡◌, ℕ, ◌^◌, ◌<◌, length, So
 ghost use Rattle.std.specs.List.{AllByRecursion};
 ghost use Rattle.source.specs.Content.{meaning};
 ghost use Rattle.attribute.specs.Table.{code_page_id};
-ghost use Rattle.pen.specs.Pen.{Wrote};
+ghost use Rattle.pen.specs.Pen.{Wrote, SameSlice};
 ghost use Rattle.stream.specs.Messages.{as_primary};
 ghost use Rattle.form.specs.Targets.{Standing};
 ghost use Rattle.form.specs.Holdings.{told_in, page_bytes};
@@ -39,6 +39,7 @@ pub fn write_page<S: Source>(source: &mut S, rows: &[AttributeRow], pen: &mut Pe
     requires fits { length pen.old.out.now < 2 ^ 32 }
     requires sound { AllByRecursion (Standing (meaning (S.Source.content source.old))) rows.now }
     ensures same { S.Source.content source.new ≡ S.Source.content source.old }
+    ensures slice { SameSlice pen.old pen.new }
     ensures value { (n : ℕ) → told_in as_primary code_page_id (meaning (S.Source.content source.old)) rows.now ≡ Some n
         → Wrote pen.old (page_bytes (meaning (S.Source.content source.old)) rows.now) pen.new }
 {

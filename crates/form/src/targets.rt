@@ -1,5 +1,5 @@
 // The frames of a target, found by the index of their ids.
-ghost use Rattle.std.specs.Prelude.{◌≡◌, ◌<◌, length};
+ghost use Rattle.std.specs.Prelude.{◌≡◌, ◌<◌, ◌≤◌, length};
 ghost use Rattle.source.specs.Content.{meaning};
 ghost use Rattle.attribute.specs.Table.{attributes};
 ghost use Rattle.frame.specs.Frames.{next_frame};
@@ -28,6 +28,7 @@ fn own_frame<S: Source>(source: &mut S, at: Cursor, used: usize) -> Option<Frame
 pub fn gather<S: Source>(source: &mut S, at: &mut Cursor) -> Rows
     requires { Readable (meaning (S.Source.content source.old)) at.old.place at.old.stage }
     ensures same { S.Source.content source.new ≡ S.Source.content source.old }
+    ensures within { length result ≤ length attributes }
     ensures value { Taken (meaning (S.Source.content source.old)) at.old.place at.old.stage result at.new.place at.new.stage }
     ensures written { StaysWritten (meaning (S.Source.content source.old)) at.old.place at.old.stage result at.new.place at.new.stage }
 {

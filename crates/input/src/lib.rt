@@ -7,6 +7,8 @@ use std::alloc::Global;
 use std::io;
 use std::io::Read;
 
+const CHUNK: usize = 65_536;
+
 // All that the reader gives, or more than `limit` bytes of it, which show that it is too long.
 pub fn read_past<R: Read>(reader: &mut R, limit: usize, heap: Global) -> io::Result<Vec<u8>>
     ensures { IfOk result (λ v. vec_len v ≤ limit + 65536) }
@@ -23,10 +25,14 @@ pub fn read_expected<R: Read>(
 ) -> io::Result<Vec<u8>>
     ensures { IfOk result (λ v. vec_len v ≤ limit + 65536) }
 {
-    let most = limit.saturating_add(1);
     let mut bytes = Vec::with_capacity(heap, expected.min(limit))?;
-    reader.by_ref().take(most as u64).read_to_end(&mut bytes)?;
-    // `take` leaves no more, but says so only of readers whose bytes are known.
-    bytes.truncate(most);
+    let mut chunk = [0u8; CHUNK];
+    for _ in 0..u64::MAX {
+        let n = reader.read(&mut chunk)?;
+        if n == 0 || bytes.len() > limit {
+            break;
+        }
+        bytes.extend_from_slice(&chunk[0..n])?;
+    }
     Ok(bytes)
 }

@@ -1,6 +1,7 @@
 // Lists and tables, indexed and written.
 ghost use Rattle.std.specs.Prelude.{◌≡◌, ◌≤◌, length};
 ghost use Rattle.source.specs.Content.{meaning, source_limit};
+ghost use Rattle.pen.specs.Pen.{SameSlice};
 ghost use Rattle.property.specs.Lists.{list_limit};
 ghost use Rattle.listform.specs.Written.{ListWritten, TableWritten, OneWritten, AllWritten};
 
@@ -21,6 +22,7 @@ fn write_list_at<S: Source>(
 ) -> Option<usize>
     requires { (end ≤ length (meaning (S.Source.content source.old))) × ((length (meaning (S.Source.content source.old)) ≤ source_limit) × (list_limit ≤ length lent.old)) }
     ensures same { S.Source.content source.new ≡ S.Source.content source.old }
+    ensures slice { SameSlice pen.old pen.new }
     ensures value { OneWritten (meaning (S.Source.content source.old)) place end pen.old pen.new result }
 {
     let Ok(listed) = rows(source, place, end, lent) else {
@@ -40,6 +42,7 @@ pub fn write_list<S: Source>(
     pen: &mut Pen<'_>,
 )
     ensures same { S.Source.content source.new ≡ S.Source.content source.old }
+    ensures slice { SameSlice pen.old pen.new }
     ensures value { ListWritten (meaning (S.Source.content source.old)) base end (length lent.old) pen.old pen.new }
 {
     if end > source.len() || lent.len() < LIST_LIMIT as usize {
@@ -60,6 +63,7 @@ fn write_lists<S: Source>(
 )
     requires { (end ≤ length (meaning (S.Source.content source.old))) × ((length (meaning (S.Source.content source.old)) ≤ source_limit) × (list_limit ≤ length lent.old)) }
     ensures same { S.Source.content source.new ≡ S.Source.content source.old }
+    ensures slice { SameSlice pen.old pen.new }
     ensures value { AllWritten (meaning (S.Source.content source.old)) count place end pen.old pen.new }
 {
     let mut read = place;
@@ -80,6 +84,7 @@ pub fn write_table<S: Source>(
     pen: &mut Pen<'_>,
 )
     ensures same { S.Source.content source.new ≡ S.Source.content source.old }
+    ensures slice { SameSlice pen.old pen.new }
     ensures value { TableWritten (meaning (S.Source.content source.old)) base end (length lent.old) pen.old pen.new }
 {
     if end > source.len() || lent.len() < LIST_LIMIT as usize || end < 4 || base > end - 4 {

@@ -13,6 +13,11 @@ pub record Wrote (p : Pen) (bytes : List ℕ) (q : Pen) : Type 0 where
   pub kept : length q.out.now ≡ length p.out.now
   pub told : Told p.out.now p.here bytes q.out.now q.here
 
+-- What every writer leaves of a pen p, also where it is given nothing that it can write: the slice is the same, and as long.
+pub record SameSlice (p q : Pen) : Type 0 where
+  pub reference : q.out.ghost_name ≡ p.out.ghost_name
+  pub kept : length q.out.now ≡ length p.out.now
+
 -- Whatever writes `rest` from now on has then written `whole` from where it began: what a loop of writers keeps.
 abbrev pub Leads : Pen → List ℕ → Pen → List ℕ → Type 0
 Leads start whole now rest = (after : Pen) → Wrote now rest after → Wrote start whole after

@@ -4,7 +4,7 @@
 ghost use Rattle.std.specs.Prelude.{◌≡◌, ◌+◌, ◌≤◌, length, replicate, Some};
 ghost use Rattle.source.specs.Bytes.{part};
 ghost use Rattle.source.specs.Content.{meaning};
-ghost use Rattle.pen.specs.Pen.{Wrote, RoomFor};
+ghost use Rattle.pen.specs.Pen.{Wrote, SameSlice, RoomFor};
 
 use scan::Number;
 use source::Source;
@@ -72,6 +72,7 @@ impl<'a> Pen<'a> {
     // Writes the `size` bytes of the source from `place` on, where there are so many.
     pub fn put_from<S: Source>(&mut self, source: &mut S, place: usize, size: usize)
         ensures same { S.Source.content source.new ≡ S.Source.content source.old }
+        ensures slice { SameSlice self.old self.new }
         ensures value { place + size ≤ length (meaning (S.Source.content source.old))
             → Wrote self.old (part (meaning (S.Source.content source.old)) place size) self.new }
     {

@@ -24,6 +24,9 @@ loop-frame-preserved g c =
     let e = sym (rw (c.len.ensures, i.0) at c.own_frame.ensures.value) ∙ c.in-Some.is in
     (c.own_frame.ensures.same ∙ i.0, rw c.behind.ensures (gather_more _ _ _ _ _ _ _ _ i.1 e c.add.ensures))
 
+pub returns-clause-within : goal.returns-clause-within
+returns-clause-within g c = omega (arith, c.loop-frame.invariant.1.few, covered_most c.loop-frame.rows attributes)
+
 pub returns-clause-value : goal.returns-clause-value
 returns-clause-value g c =
     let i = c.loop-frame.invariant in

@@ -7,18 +7,11 @@ use Rattle.form.proofs.Forms.{page_told, form_is, rest_rendered}
 use Rattle.form.proofs.wholes.write_form.Goals as goal
 
 pub write_message-requires-clause-fits : goal.write_message-requires-clause-fits
-write_message-requires-clause-fits g c =
-    let t = c.gather-rows.ensures in
-    let (n, k, _) = page_told _ _ _ _ c.requires.good t.value in
-    let p = (rw (t.same, c.as_slice-own.ensures) at c.write_page.ensures.value) n k in
-    rw (p.kept, c.write_front.ensures.kept) c.requires.fits
+write_message-requires-clause-fits g c = rw (c.write_page.ensures.slice.kept, c.write_front.ensures.kept) c.requires.fits
 
 pub write_attachments-requires-clause-fits : goal.write_attachments-requires-clause-fits
 write_attachments-requires-clause-fits g c =
-    let t = c.gather-rows.ensures in
-    let (n, k, _) = page_told _ _ _ _ c.requires.good t.value in
-    let p = (rw (t.same, c.as_slice-own.ensures) at c.write_page.ensures.value) n k in
-    rw (c.write_message.ensures.value.kept, p.kept, c.write_front.ensures.kept) c.requires.fits
+    rw (c.write_message.ensures.value.kept, c.write_page.ensures.slice.kept, c.write_front.ensures.kept) c.requires.fits
 
 pub write_attachments-requires-clause-rendered : goal.write_attachments-requires-clause-rendered
 write_attachments-requires-clause-rendered g c =
